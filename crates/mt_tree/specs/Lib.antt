@@ -1,0 +1,4 @@
+pub mod Place
+pub mod Tables
+pub mod Text
+pub mod formers
