@@ -1,0 +1,6 @@
+pub mod Known
+pub mod Pieces
+pub mod Given
+pub mod Storage
+pub mod Named
+pub mod Counts

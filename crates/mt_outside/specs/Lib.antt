@@ -1,0 +1,11 @@
+pub mod Cause
+pub mod Files
+pub mod Message
+pub mod Sink
+pub mod Take
+pub mod Calls
+pub mod Altered
+pub mod Stored
+pub mod Connection
+pub mod Entries
+pub mod Places
