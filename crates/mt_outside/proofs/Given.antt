@@ -3,7 +3,7 @@ use Rattle.std.proofs.Common.{◌≡◌, ◌≢◌, ℕ, Bool, true, false, ◌|
 use Rattle.std.specs.Option.{option_map, ForSome}
 use Rattle.std.proofs.lemmas.Bool.Decides.{nat_tests}
 use Rattle.mt_outside.specs.declared.wire.Slot.{Slot}
-use Rattle.mt_outside.specs.Message.{Message, is_slot, with_given, given_more, was_sent, sends_of, is_end, TookSome}
+use Rattle.mt_outside.specs.Message.{Message, is_slot, with_given, given_more, was_sent, sent_of, given_of, ended_of, sends_of, is_end, TookSome, Gives, IsFaithful, IsFaithfulOn}
 
 or-false : (b : Bool) → (b || false) ≡ b
 or-false true = refl
@@ -84,3 +84,14 @@ is_end_no n into some = grind (arith, nat_tests)
 
 pub is_end_yes : (n : ℕ) (into : List ℕ) → n ≡ 0 → length into ≢ 0 → is_end n into ≡ true
 is_end_yes n into none room = grind (arith, nat_tests)
+
+-- ---- what a faithful wire gives
+
+-- on every message, so on every slot
+pub faithful_on : (slot : Slot) (ms : List Message) → IsFaithful ms → IsFaithfulOn slot ms
+faithful_on slot [] all = record { begins = ([], refl); ends = λ _. refl }
+faithful_on slot (m ∷ ms) all = at (is_slot slot m.slot) (faithful_on slot ms all.1) where
+  at : (b : Bool) → IsFaithfulOn slot ms
+      → Gives (if b then m.sent else sent_of slot ms) (if b then m.given else given_of slot ms) (if b then m.ended else ended_of slot ms)
+  at true rest = all.0
+  at false rest = rest

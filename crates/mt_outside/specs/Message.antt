@@ -83,3 +83,7 @@ GivesAll arriving (m ∷ ms) = Gives (arriving m.slot m.sent) m.given m.ended ×
 -- faithful on every slot: each message gives the bytes that were sent
 abbrev pub IsFaithful : List Message → Type 0
 IsFaithful ms = GivesAll (λ slot sent. sent) ms
+
+-- faithful on one slot: what was given is a prefix of what was sent, and all of it where the slot's end was given
+abbrev pub IsFaithfulOn : Slot → List Message → Type 0
+IsFaithfulOn slot ms = Gives (sent_of slot ms) (given_of slot ms) (ended_of slot ms)

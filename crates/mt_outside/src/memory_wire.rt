@@ -3,7 +3,7 @@ ghost use Rattle.std.specs.Option.{ForNone, ForSome, option_map};
 ghost use Rattle.std.specs.Io.{ReadsAtMost};
 ghost use Rattle.mt_outside.specs.Cause.{HasCause, SendCause, HasCount, SendCount};
 ghost use Rattle.mt_outside.specs.Calls.{fresh_plan, next_plan, FailsNext};
-ghost use Rattle.mt_outside.specs.Message.{with_send, with_given, was_sent, sent_of, given_of, ended_of, is_end, Begins, GivesAll, IsFaithful};
+ghost use Rattle.mt_outside.specs.Message.{with_send, with_given, was_sent, sent_of, given_of, ended_of, is_end, Begins, GivesAll, IsFaithful, IsFaithfulOn};
 ghost use Rattle.mt_outside.specs.Stored.{to_give, sent_altered};
 
 use crate::alteration::{Alteration, Alters};
@@ -47,6 +47,7 @@ impl Alters for MemoryWire {
 
 impl MemoryWire {
     ghost use Rattle.mt_outside.specs.Altered.{altered};
+    ghost use Rattle.mt_outside.specs.declared.wire.Slot.{Slot};
 
     /// A wire that was not begun and that no call was made on. Takes no memory.
     ///
@@ -85,6 +86,7 @@ impl MemoryWire {
         ensures value { ⟦<MemoryWire as Alters>⟧.alterations self.now ≡ result.now }
         ensures altered { IfSome (⟦<MemoryWire as Wire>⟧.messages self.now) (GivesAll (altered result.now)) }
         ensures faithful { result.now ≡ [] → IfSome (⟦<MemoryWire as Wire>⟧.messages self.now) IsFaithful }
+        ensures every_slot { result.now ≡ [] → IfSome (⟦<MemoryWire as Wire>⟧.messages self.now) (λ ms. (slot : Slot) → IsFaithfulOn slot ms) }
     {
         self.alterations.as_slice()
     }

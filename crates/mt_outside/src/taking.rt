@@ -11,18 +11,25 @@ const PIECE: usize = 4096;
 /// Why a message could not be taken.
 #[derive(Clone, Copy, Debug, PartialEq, Eq)]
 pub enum TakeFault {
+    /// A call of the wire failed. Its count of faults rose, or stands at 2^64 - 1.
     Failed,
+    /// There is no room for the bytes.
     NoMemory,
 }
 
 /// What was taken of a message, and whether that was to its end.
 #[derive(Drop)]
 pub struct Taken {
+    /// The bytes, in order.
     pub bytes: Vec<u8>,
+    /// Whether the message's end was given after them.
     pub ended: bool,
 }
 
-/// Takes a message to its end, or so many bytes of it.
+/// Takes the rest of a message, to its end or as far as `bound` bytes, in pieces of at most 4,096 bytes.
+///
+/// No other message is touched. After an error a part of the message may have been given. `Failed` comes only where the
+/// wire's count of faults rose in this call, or stands at 2^64 - 1.
 pub fn take_slot<W: Wire>(
     alloc: Global,
     wire: &mut W,

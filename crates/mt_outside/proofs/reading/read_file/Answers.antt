@@ -10,6 +10,7 @@ pieces-init g c = record {
   begins = rw c.new-bytes.ensures.items (Begins-nil _);
   missing = λ _. (refl, c.new-bytes.ensures.len);
   kept = refl;
+  still_missing = λ _ missing. missing;
   later = λ _. omega arith;
 }
 
@@ -24,6 +25,7 @@ pieces-preserved g c =
           let failed = c.in_ok-count.ensures.missing at_start in
           absurd (cc);
       kept = c.in_ok-count.ensures.kept ∙ c.pieces.invariant.kept;
+      still_missing = λ other missing. c.in_ok-count.ensures.still_missing other (c.pieces.invariant.still_missing other missing);
       later = λ other. omega (arith, c.in_ok-count.ensures.later other, c.pieces.invariant.later other);
     }
 

@@ -11,6 +11,7 @@ invariant-pieces g l = record {
   begins : Begins (g.F.Files.contents l.initial.files (chars l.fn.name)) l.bytes.items;
   missing : g.F.Files.is_missing l.initial.files (chars l.fn.name) → (l.files ≡ l.initial.files) × (vec_len l.bytes ≡ 0);
   kept : g.F.Files.contents l.files ≡ g.F.Files.contents l.initial.files;
+  still_missing : (other : List ℕ) → g.F.Files.is_missing l.initial.files other → g.F.Files.is_missing l.files other;
   later : (other : List ℕ) → g.F.Files.faults l.initial.files other ≤ g.F.Files.faults l.files other;
 }
 
