@@ -5,9 +5,8 @@ use Rattle.std.specs.Option.{is_none}
 use Rattle.std.proofs.lemmas.Slice.Eq.{bytes_eq-Decides}
 use Rattle.mt_outside.specs.declared.memory_files.FileEntry.{FileEntry}
 use Rattle.mt_outside.specs.Calls.{next_count}
-use Rattle.mt_outside.specs.Entries.{content_of, count_of}
+use Rattle.mt_outside.specs.Entries.{content_of, count_of, place_in_names}
 use Rattle.mt_outside.specs.Files.{shares_count}
-use Rattle.mt_outside.specs.Places.{place_in_names}
 use Rattle.mt_outside.proofs.Named.{content-none}
 
 same_name : (a b : List ℕ) → bytes_eq a b ≡ true → a ≡ b

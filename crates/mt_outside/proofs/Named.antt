@@ -2,8 +2,7 @@
 use Rattle.std.proofs.Common.{◌≡◌, ◌<◌, ◌≤◌, ℕ, suc, zero, Bool, true, false, List, [], ◌∷◌, length, get_or, set, refl, arith, if◌then◌else◌, None, Some}
 use Rattle.std.specs.Str.{bytes_eq}
 use Rattle.mt_outside.specs.declared.memory_files.FileEntry.{FileEntry}
-use Rattle.mt_outside.specs.Entries.{content_of, count_of}
-use Rattle.mt_outside.specs.Places.{place_in_names}
+use Rattle.mt_outside.specs.Entries.{content_of, count_of, place_in_names}
 
 pub content-place : (name : List ℕ) (es : List FileEntry) (d : FileEntry)
     → place_in_names name es < length es → content_of es name ≡ Some (get_or es (place_in_names name es) d).bytes

@@ -8,4 +8,3 @@ pub mod Altered
 pub mod Stored
 pub mod Connection
 pub mod Entries
-pub mod Places

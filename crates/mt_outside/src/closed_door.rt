@@ -10,6 +10,7 @@ use crate::fault::{Failed, SendFault};
 #[derive(Drop)]
 pub struct ClosedDoor {
     port: Option<u16>,
+    // No call sets either of these. They stand for what the conditions of the calls speak of.
     listens: bool,
     is_open: bool,
     faults: u64,

@@ -1,7 +1,7 @@
 ghost use Rattle.std.specs.Prelude.{◌≡◌, ◌≤◌, ◌-◌, length, min};
 ghost use Rattle.std.specs.Str.{chars, bytes_eq};
 ghost use Rattle.mt_outside.specs.Files.{ReadsPart};
-ghost use Rattle.mt_outside.specs.Places.{place_in_names};
+ghost use Rattle.mt_outside.specs.Entries.{place_in_names};
 
 use crate::memory_files::FileEntry;
 

@@ -17,7 +17,9 @@ use std::alloc::Global;
 /// A file in memory: its name and its bytes.
 #[derive(Drop)]
 pub struct FileEntry {
+    /// The name that it is read by.
     pub name: Text,
+    /// All of its bytes.
     pub bytes: Buffer<u8>,
 }
 

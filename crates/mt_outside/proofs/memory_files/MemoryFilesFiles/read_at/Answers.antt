@@ -2,8 +2,7 @@ use Rattle.std.proofs.Common.{◌≡◌, ◌<◌, ◌≤◌, Some, inl, inr, ref
 use Rattle.std.specs.Str.{chars}
 use Rattle.std.proofs.lemmas.List.{length-set, get_or-set_same, get_or_default}
 use Rattle.mt_outside.specs.Calls.{next_count}
-use Rattle.mt_outside.specs.Entries.{content_of, count_of}
-use Rattle.mt_outside.specs.Places.{place_in_names}
+use Rattle.mt_outside.specs.Entries.{content_of, count_of, place_in_names}
 use Rattle.mt_outside.proofs.Counts.{counts_there, counts_missing}
 use Rattle.mt_outside.proofs.Named.{content-none, content-place, content-found, count-missing_later, count-none, count-set_later, count-place}
 use Rattle.mt_outside.proofs.memory_files.MemoryFilesFiles.read_at.Goals as goal
