@@ -1,0 +1,14 @@
+pub mod Applications
+pub mod Between
+pub mod Characters
+pub mod Commands
+pub mod Cuts
+pub mod Messages
+pub mod Numbers
+pub mod Options
+pub mod Pages
+pub mod PlainText
+pub mod Replies
+pub mod ScheduleTargets
+pub mod Schedules
+pub mod Targets

@@ -1,0 +1,12 @@
+pub mod Application
+pub mod ApplicationReader
+pub mod CommandReader
+pub mod Name
+pub mod Number
+pub mod Paragraph
+pub mod Readable
+pub mod Reading
+pub mod Schedule
+pub mod ScheduleReader
+pub mod Splitting
+pub mod Wire
