@@ -1,0 +1,14 @@
+pub mod Clients
+pub mod Correspondence
+pub mod FaithfulRuns
+pub mod FirstPlaces
+pub mod Fitting
+pub mod MessageAt
+pub mod Plays
+pub mod Runs
+pub mod Slots
+pub mod Standings
+pub mod StandingsAfter
+pub mod Steps
+pub mod Wires
+pub mod WorkedExamples

@@ -1,0 +1,12 @@
+pub mod Causes
+pub mod Command
+pub mod Corresponds
+pub mod Examples
+pub mod First
+pub mod Machine
+pub mod Parties
+pub mod Progress
+pub mod Sides
+pub mod Step
+pub mod Transcript
+pub mod WireFits
