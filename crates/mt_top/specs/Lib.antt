@@ -1,0 +1,5 @@
+pub mod Expected
+pub mod Lines
+pub mod Replay
+pub mod Status
+pub mod Words

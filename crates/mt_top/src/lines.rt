@@ -1,0 +1,49 @@
+ghost use Rattle.std.specs.Prelude.{◌≡◌, ◌++◌, OnOk, IfOk, decimal};
+ghost use Rattle.mt_top.specs.Lines.{usage_text, not_built_line, file_fault_line, too_long_line, bad_line};
+
+use mt_small::{append, append_number};
+use mt_tree::NoMemory;
+use std::alloc::Global;
+
+/// What is written where the words are no command.
+#[tactic(auto, unfolding(crate::specs::Lines::usage_text))]
+pub fn usage() -> &'static [u8]
+    ensures { result.now ≡ usage_text }
+{
+    b"usage: hopjs check APP\n       hopjs start APP\n       hopjs page APP TARGET\n       hopjs replay APP SCHEDULE [--loopback]\n       hopjs serve APP PORT COUNT\n       hopjs load N\n"
+}
+
+/// What is written where the application uses what is not built.
+#[tactic(auto, unfolding(crate::specs::Lines::not_built_line))]
+pub fn not_built() -> &'static [u8]
+    ensures { result.now ≡ not_built_line }
+{
+    b"refused NotBuilt at 1:1\n"
+}
+
+/// What is written where a file failed.
+#[tactic(auto, unfolding(crate::specs::Lines::file_fault_line))]
+pub fn file_fault() -> &'static [u8]
+    ensures { result.now ≡ file_fault_line }
+{
+    b"file fault\n"
+}
+
+/// What is written where a file is too long.
+#[tactic(auto, unfolding(crate::specs::Lines::too_long_line))]
+pub fn too_long() -> &'static [u8]
+    ensures { result.now ≡ too_long_line }
+{
+    b"file too long\n"
+}
+
+/// What is written where this line of the schedule, counted from 1, is no command.
+pub fn bad_schedule_line(alloc: Global, number: u32) -> Result<Vec<u8>, NoMemory>
+    ensures { IfOk result (λ line. line.items ≡ bad_line number) }
+{
+    let mut line = Vec::new(alloc);
+    append(&mut line, b"bad schedule line ")?;
+    append_number(alloc, &mut line, u64::from(number))?;
+    append(&mut line, b"\n")?;
+    Ok(line)
+}
