@@ -1,0 +1,4 @@
+pub mod Unroll
+pub mod Escapes
+pub mod Tables
+pub mod Complete

@@ -1,0 +1,6 @@
+pub mod Character
+pub mod Sign
+pub mod Word
+pub mod Escape
+pub mod Spelling
+pub mod Machine
