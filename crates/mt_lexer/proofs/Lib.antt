@@ -2,3 +2,4 @@ pub mod Unroll
 pub mod Escapes
 pub mod Tables
 pub mod Complete
+pub mod Total

@@ -7,8 +7,7 @@ use std::alloc::Global;
 use std::marker::Model;
 use std::rc::RcStr;
 
-/// A text that never changes, and whose contents are shared by counting. Contracts see the list of its characters, each a
-/// Unicode scalar value, so a text and those that share its contents are the same value.
+/// A text that never changes and is shared. Contracts see its characters.
 #[derive(Drop)]
 pub struct Text {
     inner: RcStr,
@@ -25,10 +24,6 @@ impl Model for Text {
 }
 
 impl Text {
-    /// Copies a text.
-    ///
-    /// # Errors
-    /// `NoMemory`.
     pub fn from_str(alloc: Global, text: &str) -> Result<Text, NoMemory>
         ensures { IfOk result (λ made. made ≡ chars text.now) }
     {
@@ -38,7 +33,6 @@ impl Text {
         }
     }
 
-    /// Lends the characters. Takes no memory.
     pub fn as_str(&self) -> &str
         ensures value { chars result.now ≡ self.now }
         ensures bytes { result.now ≡ encode_utf8_all self.now }
@@ -47,24 +41,21 @@ impl Text {
         self.inner.as_str()
     }
 
-    /// Lends the bytes of the text in UTF-8. Takes no memory.
+    /// The bytes of the text in UTF-8. Takes no memory.
     pub fn as_bytes(&self) -> &[u8]
         ensures { result.now ≡ encode_utf8_all self.now }
     {
         self.as_str().as_bytes()
     }
 
-    /// Whether the text has just these characters. Takes no memory.
+    /// Whether it has these characters. Takes no memory.
     pub fn is(&self, text: &str) -> bool
         ensures { IsTrue result ↔ (self.now ≡ chars text.now) }
     {
         same_text(self.as_str(), text)
     }
 
-    /// An equal text, which shares the contents and copies none.
-    ///
-    /// # Errors
-    /// `NoMemory` where the count of sharers is at its last value.
+    /// An equal text, which shares the contents.
     pub fn share(&self) -> Result<Text, NoMemory>
         ensures { IfOk result (λ made. made ≡ self.now) }
     {
@@ -74,7 +65,7 @@ impl Text {
         }
     }
 
-    /// The length in units of UTF-16: one for each character up to U+FFFF, and two for each above it. Takes no memory.
+    /// The length in units of UTF-16.
     pub fn units(&self) -> u64
         ensures { result ≡ units_of self.now }
     {
