@@ -17,7 +17,8 @@ use Rattle.mt_lexer.specs.declared.mode.Before.{Before}
 use Rattle.mt_lexer.specs.declared.mode.Before.TheVariants as before
 use Rattle.mt_lexer.specs.declared.mode.Opener.{Opener}
 use Rattle.mt_lexer.specs.declared.mode.Opener.TheVariants as opener
-use Rattle.mt_lexer.specs.declared.mode.Quote.{Quote}
+use Rattle.mt_lexer.specs.declared.character.Quote.{Quote}
+use Rattle.mt_lexer.specs.declared.character.Quote.TheVariants as quote
 use Rattle.mt_lexer.specs.declared.part.OpenText.{OpenText}
 use Rattle.mt_lexer.specs.declared.part.OpenEscape.{OpenEscape}
 use Rattle.mt_lexer.specs.declared.part.Part.{Part}
@@ -126,8 +127,8 @@ module _ (source : List ℕ) where
   block_more : (y : Class) (x : SourceChar) (cs : Chars) (s : ℕ) (ms : List Mode) (b : Before) → class x ≡ y → in_block y (first cs) ≡ true
       → lexed source (x ∷ cs) ms b (p.BlockComment s) ≡ lexed source cs ms b (p.BlockComment s)
   block_more c.End x cs s ms b e h = absurd cc
-  block_more c.Star x cs s ms b e h =
-      at_class source c.Star x cs ms b (p.BlockComment s) e
+  block_more (c.Sign sign.Star) x cs s ms b e h =
+      at_class source (c.Sign sign.Star) x cs ms b (p.BlockComment s) e
       ∙ again source cs ms b (p.BlockStar s) (p.BlockComment s) (t.star_back source (head source cs) (first cs) s b ms (not_true (is_slash (first cs)) h))
   block_more y x cs s ms b e h = at_class source y x cs ms b (p.BlockComment s) e
 
@@ -137,23 +138,23 @@ module _ (source : List ℕ) where
 
   -- ---- signs
 
-  both_equals : (y z : Class) → (is_equals y && is_equals z) ≡ true → (y ≡ c.Equals) × (z ≡ c.Equals)
-  both_equals c.Equals c.Equals h = (refl, refl)
-  both_equals c.Equals _ h = absurd cc
+  both_equals : (y z : Class) → (is_equals y && is_equals z) ≡ true → (y ≡ (c.Sign sign.Equals)) × (z ≡ (c.Sign sign.Equals))
+  both_equals (c.Sign sign.Equals) (c.Sign sign.Equals) h = (refl, refl)
+  both_equals (c.Sign sign.Equals) _ h = absurd cc
   both_equals _ z h = absurd cc
 
   three : (a : Sign) (x y z : SourceChar) (cs : Chars) (ms : List Mode) (b : Before) → is_three a (class y) (class z) ≡ true
       → lexed source (y ∷ z ∷ cs) ms b (p.Sign x.span a) ≡ token k.Punctuator (through x z) (lexed source cs ms before.Other p.Fresh)
   three sign.Equals x y z cs ms b h =
       let e = both_equals (class y) (class z) h in
-      at_class source c.Equals y (z ∷ cs) ms b (p.Sign x.span sign.Equals) e.0 ∙ at_class source c.Equals z cs ms b (p.SignEquals x.span y.span) e.1
+      at_class source (c.Sign sign.Equals) y (z ∷ cs) ms b (p.Sign x.span sign.Equals) e.0 ∙ at_class source (c.Sign sign.Equals) z cs ms b (p.SignEquals x.span y.span) e.1
   three sign.Exclamation x y z cs ms b h =
       let e = both_equals (class y) (class z) h in
-      at_class source c.Equals y (z ∷ cs) ms b (p.Sign x.span sign.Exclamation) e.0 ∙ at_class source c.Equals z cs ms b (p.SignEquals x.span y.span) e.1
+      at_class source (c.Sign sign.Equals) y (z ∷ cs) ms b (p.Sign x.span sign.Exclamation) e.0 ∙ at_class source (c.Sign sign.Equals) z cs ms b (p.SignEquals x.span y.span) e.1
   three _ x y z cs ms b h = absurd cc
 
   equals_back : (y : Class) (x : SourceChar) (s u : Span) (ms : List Mode) → is_equals y ≡ false → sign_equals_by source x y s u ms ≡ emit k.Punctuator s (alone source x u y ms)
-  equals_back c.Equals x s u ms h = absurd cc
+  equals_back (c.Sign sign.Equals) x s u ms h = absurd cc
   equals_back _ x s u ms h = refl
 
   two_equals : (cs : Chars) (s u : Span) (ms : List Mode) (b : Before) → is_equals (first cs) ≡ false
@@ -164,8 +165,8 @@ module _ (source : List ℕ) where
   one_equal : (cs : Chars) (s : Span) (ms : List Mode) (b : Before) → is_equals (first cs) ≡ false → lexed source cs ms b (p.Sign s sign.Equals) ≡ token k.Punctuator s (lexed source cs ms before.Other p.Fresh)
   one_equal cs s ms b h = afresh_at source cs ms ms b before.Other (p.Sign s sign.Equals) k.Punctuator s (t.equals_alone source (head source cs) (first cs) s b ms h)
 
-  is_equals_true : (y : Class) → is_equals y ≡ true → y ≡ c.Equals
-  is_equals_true c.Equals h = refl
+  is_equals_true : (y : Class) → is_equals y ≡ true → y ≡ (c.Sign sign.Equals)
+  is_equals_true (c.Sign sign.Equals) h = refl
   is_equals_true _ h = absurd cc
 
   -- `=` or `!` where no two `=` follow
@@ -180,7 +181,7 @@ module _ (source : List ℕ) where
       by_test true e h =
           let is = is_equals_true (class y) e in let ns = m.Code q ∷ ms in
           ap (follows (lexed source cs)) (same y (class y)) ∙ ap (λ (z : Class). follows (lexed source cs) (equals_by source y z s b ns)) is ∙ two_equals cs s y.span ns b h
-          ∙ ap (token k.Punctuator s) (sym (at_class source c.Equals y cs ns before.Other p.Fresh is ∙ one_equal cs y.span ns before.Other h))
+          ∙ ap (token k.Punctuator s) (sym (at_class source (c.Sign sign.Equals) y cs ns before.Other p.Fresh is ∙ one_equal cs y.span ns before.Other h))
       by_test false e h =
           afresh_at source (y ∷ cs) (m.Code q ∷ ms) (m.Code q ∷ ms) b before.Other (p.Sign s a) k.Punctuator s (same y (class y) ∙ t.equals_alone source y (class y) s b (m.Code q ∷ ms) e)
 
@@ -228,9 +229,9 @@ module _ (source : List ℕ) where
   child_more : (y : Class) (x : SourceChar) (cs : Chars) (s : ℕ) (ms : List Mode) (b : Before) → class x ≡ y → in_child_text y (first cs) ≡ true
       → lexed source (x ∷ cs) ms b (p.ChildText s) ≡ lexed source cs ms b (p.ChildText s)
   child_more c.End x cs s ms b e h = absurd cc
-  child_more c.Less x cs s ms b e h = absurd cc
-  child_more c.Tilde x cs s ms b e h = at_class source c.Tilde x cs ms b (p.ChildText s) e ∙ sign_back cs s x.span.start opener.Tilde ms b (not_true (is_open_brace (first cs)) h)
-  child_more c.Dollar x cs s ms b e h = at_class source c.Dollar x cs ms b (p.ChildText s) e ∙ sign_back cs s x.span.start opener.Dollar ms b (not_true (is_open_brace (first cs)) h)
+  child_more (c.Sign sign.Less) x cs s ms b e h = absurd cc
+  child_more (c.Sign sign.Tilde) x cs s ms b e h = at_class source (c.Sign sign.Tilde) x cs ms b (p.ChildText s) e ∙ sign_back cs s x.span.start opener.Tilde ms b (not_true (is_open_brace (first cs)) h)
+  child_more (c.Sign sign.Dollar) x cs s ms b e h = at_class source (c.Sign sign.Dollar) x cs ms b (p.ChildText s) e ∙ sign_back cs s x.span.start opener.Dollar ms b (not_true (is_open_brace (first cs)) h)
   child_more y x cs s ms b e h = at_class source y x cs ms b (p.ChildText s) e
 
   child_texts : {cs rest : Chars} → Run in_child_text cs rest → (s : ℕ) (ms : List Mode) (b : Before) → lexed source cs ms b (p.ChildText s) ≡ lexed source rest ms b (p.ChildText s)
@@ -256,16 +257,16 @@ module _ (source : List ℕ) where
   child_ends_at : (y : Class) (x : SourceChar) (cs : Chars) (s q : ℕ) (ms : List Mode) (b : Before) → class x ≡ y → in_child_text y (first cs) ≡ false
       → lexed source (x ∷ cs) (m.Children q ∷ ms) b (p.ChildText s) ≡ token k.ChildText (between s x.span.start) (lexed source (x ∷ cs) (m.Children q ∷ ms) before.Other p.Fresh)
   child_ends_at c.End x cs s q ms b e h = absurd (not_end x.value e)
-  child_ends_at c.Less x cs s q ms b e h =
-      let ns = m.Children q ∷ ms in at_class source c.Less x cs ns b (p.ChildText s) e ∙ ap (token k.ChildText (between s x.span.start)) (sym (at_class source c.Less x cs ns before.Other p.Fresh e))
-  child_ends_at c.Tilde x cs s q ms b e h =
+  child_ends_at (c.Sign sign.Less) x cs s q ms b e h =
+      let ns = m.Children q ∷ ms in at_class source (c.Sign sign.Less) x cs ns b (p.ChildText s) e ∙ ap (token k.ChildText (between s x.span.start)) (sym (at_class source (c.Sign sign.Less) x cs ns before.Other p.Fresh e))
+  child_ends_at (c.Sign sign.Tilde) x cs s q ms b e h =
       let ns = m.Children q ∷ ms in
-      at_class source c.Tilde x cs ns b (p.ChildText s) e ∙ opens_after cs s x.span.start opener.Tilde ns b (not_false (is_open_brace (first cs)) h)
-      ∙ ap (token k.ChildText (between s x.span.start)) (sym (at_class source c.Tilde x cs ns before.Other p.Fresh e))
-  child_ends_at c.Dollar x cs s q ms b e h =
+      at_class source (c.Sign sign.Tilde) x cs ns b (p.ChildText s) e ∙ opens_after cs s x.span.start opener.Tilde ns b (not_false (is_open_brace (first cs)) h)
+      ∙ ap (token k.ChildText (between s x.span.start)) (sym (at_class source (c.Sign sign.Tilde) x cs ns before.Other p.Fresh e))
+  child_ends_at (c.Sign sign.Dollar) x cs s q ms b e h =
       let ns = m.Children q ∷ ms in
-      at_class source c.Dollar x cs ns b (p.ChildText s) e ∙ opens_after cs s x.span.start opener.Dollar ns b (not_false (is_open_brace (first cs)) h)
-      ∙ ap (token k.ChildText (between s x.span.start)) (sym (at_class source c.Dollar x cs ns before.Other p.Fresh e))
+      at_class source (c.Sign sign.Dollar) x cs ns b (p.ChildText s) e ∙ opens_after cs s x.span.start opener.Dollar ns b (not_false (is_open_brace (first cs)) h)
+      ∙ ap (token k.ChildText (between s x.span.start)) (sym (at_class source (c.Sign sign.Dollar) x cs ns before.Other p.Fresh e))
   child_ends_at _ x cs s q ms b e h = absurd cc
 
   -- where a text among children ends
@@ -277,12 +278,12 @@ module _ (source : List ℕ) where
   child_begins : (y : Class) (x : SourceChar) (cs : Chars) (q : ℕ) (ms : List Mode) (b : Before) → class x ≡ y → in_child_text y (first cs) ≡ true
       → lexed source (x ∷ cs) (m.Children q ∷ ms) b p.Fresh ≡ lexed source cs (m.Children q ∷ ms) b (p.ChildText x.span.start)
   child_begins c.End x cs q ms b e h = absurd cc
-  child_begins c.Less x cs q ms b e h = absurd cc
-  child_begins c.Tilde x cs q ms b e h =
-      let ns = m.Children q ∷ ms in at_class source c.Tilde x cs ns b p.Fresh e
+  child_begins (c.Sign sign.Less) x cs q ms b e h = absurd cc
+  child_begins (c.Sign sign.Tilde) x cs q ms b e h =
+      let ns = m.Children q ∷ ms in at_class source (c.Sign sign.Tilde) x cs ns b p.Fresh e
       ∙ again source cs ns b (p.ChildSign x.span.start opener.Tilde) (p.ChildText x.span.start) (t.child_alone source (head source cs) (first cs) x.span.start opener.Tilde b ns (not_true (is_open_brace (first cs)) h))
-  child_begins c.Dollar x cs q ms b e h =
-      let ns = m.Children q ∷ ms in at_class source c.Dollar x cs ns b p.Fresh e
+  child_begins (c.Sign sign.Dollar) x cs q ms b e h =
+      let ns = m.Children q ∷ ms in at_class source (c.Sign sign.Dollar) x cs ns b p.Fresh e
       ∙ again source cs ns b (p.ChildSign x.span.start opener.Dollar) (p.ChildText x.span.start) (t.child_alone source (head source cs) (first cs) x.span.start opener.Dollar b ns (not_true (is_open_brace (first cs)) h))
   child_begins y x cs q ms b e h = at_class source y x cs (m.Children q ∷ ms) b p.Fresh e
 
@@ -302,30 +303,30 @@ module _ (source : List ℕ) where
 
   opener_at : (v : Class) (x y : SourceChar) (cs : Chars) (z : Mode) (ms : List Mode) (b : Before) (a : Opener) → class x ≡ v → opener_of v ≡ Some a → class y ≡ c.OpenBrace
       → lexed source (x ∷ y ∷ cs) (z ∷ ms) b p.Fresh ≡ token (opener_kind a) (through x y) (lexed source cs (m.Code (Some x.span.start) ∷ z ∷ ms) before.Other p.Fresh)
-  opener_at c.Tilde x y cs z ms b a e h f = let is : opener.Tilde ≡ a = cc in by_mode z ∙ ap (λ (a : Opener). token (opener_kind a) (through x y) (lexed source cs (m.Code (Some x.span.start) ∷ z ∷ ms) before.Other p.Fresh)) is
+  opener_at (c.Sign sign.Tilde) x y cs z ms b a e h f = let is : opener.Tilde ≡ a = cc in by_mode z ∙ ap (λ (a : Opener). token (opener_kind a) (through x y) (lexed source cs (m.Code (Some x.span.start) ∷ z ∷ ms) before.Other p.Fresh)) is
     where
       by_mode : (z : Mode) → lexed source (x ∷ y ∷ cs) (z ∷ ms) b p.Fresh ≡ token k.TildeOpen (through x y) (lexed source cs (m.Code (Some x.span.start) ∷ z ∷ ms) before.Other p.Fresh)
-      by_mode (m.Code q) = at_class source c.Tilde x (y ∷ cs) (m.Code q ∷ ms) b p.Fresh e ∙ at_class source c.OpenBrace y cs (m.Code q ∷ ms) b (p.Sign x.span sign.Tilde) f
-      by_mode (m.Tag q v) = at_class source c.Tilde x (y ∷ cs) (m.Tag q v ∷ ms) b p.Fresh e ∙ at_class source c.OpenBrace y cs (m.Tag q v ∷ ms) b (p.Sign x.span sign.Tilde) f
-      by_mode (m.Children q) = at_class source c.Tilde x (y ∷ cs) (m.Children q ∷ ms) b p.Fresh e ∙ at_class source c.OpenBrace y cs (m.Children q ∷ ms) b (p.ChildSign x.span.start opener.Tilde) f
-  opener_at c.Dollar x y cs z ms b a e h f = let is : opener.Dollar ≡ a = cc in by_mode z ∙ ap (λ (a : Opener). token (opener_kind a) (through x y) (lexed source cs (m.Code (Some x.span.start) ∷ z ∷ ms) before.Other p.Fresh)) is
+      by_mode (m.Code q) = at_class source (c.Sign sign.Tilde) x (y ∷ cs) (m.Code q ∷ ms) b p.Fresh e ∙ at_class source c.OpenBrace y cs (m.Code q ∷ ms) b (p.Sign x.span sign.Tilde) f
+      by_mode (m.Tag q v) = at_class source (c.Sign sign.Tilde) x (y ∷ cs) (m.Tag q v ∷ ms) b p.Fresh e ∙ at_class source c.OpenBrace y cs (m.Tag q v ∷ ms) b (p.Sign x.span sign.Tilde) f
+      by_mode (m.Children q) = at_class source (c.Sign sign.Tilde) x (y ∷ cs) (m.Children q ∷ ms) b p.Fresh e ∙ at_class source c.OpenBrace y cs (m.Children q ∷ ms) b (p.ChildSign x.span.start opener.Tilde) f
+  opener_at (c.Sign sign.Dollar) x y cs z ms b a e h f = let is : opener.Dollar ≡ a = cc in by_mode z ∙ ap (λ (a : Opener). token (opener_kind a) (through x y) (lexed source cs (m.Code (Some x.span.start) ∷ z ∷ ms) before.Other p.Fresh)) is
     where
       by_mode : (z : Mode) → lexed source (x ∷ y ∷ cs) (z ∷ ms) b p.Fresh ≡ token k.DollarOpen (through x y) (lexed source cs (m.Code (Some x.span.start) ∷ z ∷ ms) before.Other p.Fresh)
-      by_mode (m.Code q) = at_class source c.Dollar x (y ∷ cs) (m.Code q ∷ ms) b p.Fresh e ∙ at_class source c.OpenBrace y cs (m.Code q ∷ ms) b (p.Sign x.span sign.Dollar) f
-      by_mode (m.Tag q v) = at_class source c.Dollar x (y ∷ cs) (m.Tag q v ∷ ms) b p.Fresh e ∙ at_class source c.OpenBrace y cs (m.Tag q v ∷ ms) b (p.Sign x.span sign.Dollar) f
-      by_mode (m.Children q) = at_class source c.Dollar x (y ∷ cs) (m.Children q ∷ ms) b p.Fresh e ∙ at_class source c.OpenBrace y cs (m.Children q ∷ ms) b (p.ChildSign x.span.start opener.Dollar) f
+      by_mode (m.Code q) = at_class source (c.Sign sign.Dollar) x (y ∷ cs) (m.Code q ∷ ms) b p.Fresh e ∙ at_class source c.OpenBrace y cs (m.Code q ∷ ms) b (p.Sign x.span sign.Dollar) f
+      by_mode (m.Tag q v) = at_class source (c.Sign sign.Dollar) x (y ∷ cs) (m.Tag q v ∷ ms) b p.Fresh e ∙ at_class source c.OpenBrace y cs (m.Tag q v ∷ ms) b (p.Sign x.span sign.Dollar) f
+      by_mode (m.Children q) = at_class source (c.Sign sign.Dollar) x (y ∷ cs) (m.Children q ∷ ms) b p.Fresh e ∙ at_class source c.OpenBrace y cs (m.Children q ∷ ms) b (p.ChildSign x.span.start opener.Dollar) f
   opener_at _ x y cs z ms b a e h f = absurd cc
 
-  tag_opens : (x y : SourceChar) (cs rest : Chars) (z : Mode) (ms : List Mode) (b : Before) → class x ≡ c.Less → class y ≡ c.Letter → opens_tag z b ≡ true → RunOf continues_tag cs rest
+  tag_opens : (x y : SourceChar) (cs rest : Chars) (z : Mode) (ms : List Mode) (b : Before) → class x ≡ (c.Sign sign.Less) → class y ≡ c.Letter → opens_tag z b ≡ true → RunOf continues_tag cs rest
       → lexed source (x ∷ y ∷ cs) (z ∷ ms) b p.Fresh ≡ token k.TagOpen (until source x rest) (lexed source rest (m.Tag x.span.start (is_among void_tags (text_of source (until source y rest))) ∷ z ∷ ms) before.Other p.Fresh)
   tag_opens x y cs rest (m.Code q) ms b e f h r =
       let ns = m.Code q ∷ ms in
-      at_class source c.Less x (y ∷ cs) ns b p.Fresh e ∙ at_class source c.Letter y cs ns b (p.Sign x.span sign.Less) f
+      at_class source (c.Sign sign.Less) x (y ∷ cs) ns b p.Fresh e ∙ at_class source c.Letter y cs ns b (p.Sign x.span sign.Less) f
       ∙ ap (λ (v : Bool). follows (lexed source cs) (letter_by source y v x.span b ns)) h ∙ tag_names r x.span.start y.span.start ns b
   tag_opens x y cs rest (m.Tag q v) ms b e f h r = absurd cc
   tag_opens x y cs rest (m.Children q) ms b e f h r =
       let ns = m.Children q ∷ ms in
-      at_class source c.Less x (y ∷ cs) ns b p.Fresh e ∙ at_class source c.Letter y cs ns b (p.ChildLess x.span.start) f ∙ tag_names r x.span.start y.span.start ns b
+      at_class source (c.Sign sign.Less) x (y ∷ cs) ns b p.Fresh e ∙ at_class source c.Letter y cs ns b (p.ChildLess x.span.start) f ∙ tag_names r x.span.start y.span.start ns b
 
   tag_nothing : (v : Class) (x : SourceChar) (cs : Chars) (q : ℕ) (w : Bool) (ms : List Mode) (b : Before) → class x ≡ v → begins_nothing_in_tag v (first cs) ≡ true
       → lexed source (x ∷ cs) (m.Tag q w ∷ ms) b p.Fresh ≡ refused fault.BadCharacter x.span.start
@@ -334,18 +335,18 @@ module _ (source : List ℕ) where
   tag_nothing c.LineFeed x cs q w ms b e h = absurd cc
   tag_nothing c.CarriageReturn x cs q w ms b e h = absurd cc
   tag_nothing c.Letter x cs q w ms b e h = absurd cc
-  tag_nothing c.Equals x cs q w ms b e h = absurd cc
-  tag_nothing c.DoubleQuote x cs q w ms b e h = absurd cc
-  tag_nothing c.SingleQuote x cs q w ms b e h = absurd cc
-  tag_nothing c.Greater x cs q w ms b e h = absurd cc
-  tag_nothing c.Slash x cs q w ms b e h =
-      let ns = m.Tag q w ∷ ms in at_class source c.Slash x cs ns b p.Fresh e
+  tag_nothing (c.Sign sign.Equals) x cs q w ms b e h = absurd cc
+  tag_nothing (c.Quote quote.Double) x cs q w ms b e h = absurd cc
+  tag_nothing (c.Quote quote.Single) x cs q w ms b e h = absurd cc
+  tag_nothing (c.Sign sign.Greater) x cs q w ms b e h = absurd cc
+  tag_nothing (c.Sign sign.Slash) x cs q w ms b e h =
+      let ns = m.Tag q w ∷ ms in at_class source (c.Sign sign.Slash) x cs ns b p.Fresh e
       ∙ stopped source cs ns b (p.TagSlash x.span.start) fault.BadCharacter x.span.start (t.tag_slash_bad source (head source cs) (first cs) x.span.start ns (not_true (is_greater (first cs)) h))
-  tag_nothing c.Tilde x cs q w ms b e h =
-      let ns = m.Tag q w ∷ ms in at_class source c.Tilde x cs ns b p.Fresh e
+  tag_nothing (c.Sign sign.Tilde) x cs q w ms b e h =
+      let ns = m.Tag q w ∷ ms in at_class source (c.Sign sign.Tilde) x cs ns b p.Fresh e
       ∙ stopped source cs ns b (p.Sign x.span sign.Tilde) fault.BadCharacter x.span.start (t.strayed source (head source cs) sign.Tilde (first cs) x.span b ns h)
-  tag_nothing c.Dollar x cs q w ms b e h =
-      let ns = m.Tag q w ∷ ms in at_class source c.Dollar x cs ns b p.Fresh e
+  tag_nothing (c.Sign sign.Dollar) x cs q w ms b e h =
+      let ns = m.Tag q w ∷ ms in at_class source (c.Sign sign.Dollar) x cs ns b p.Fresh e
       ∙ stopped source cs ns b (p.Sign x.span sign.Dollar) fault.BadCharacter x.span.start (t.strayed source (head source cs) sign.Dollar (first cs) x.span b ns h)
   tag_nothing v x cs q w ms b e h = at_class source v x cs (m.Tag q w ∷ ms) b p.Fresh e
 
@@ -355,13 +356,13 @@ module _ (source : List ℕ) where
   complete l_open = refl
   complete (l_space {q} {b} {ms} {x} {cs} h d) = ap (follows (lexed source cs)) (t.code_space source x (class x) q b ms h) ∙ complete d
   complete (l_line_comment {q} {b} {ms} {x} {y} {cs} e f r d) =
-      let ns = m.Code q ∷ ms in at_class source c.Slash x (y ∷ cs) ns b p.Fresh e ∙ at_class source c.Slash y cs ns b (p.Sign x.span sign.Slash) f ∙ lines r ns b ∙ complete d
+      let ns = m.Code q ∷ ms in at_class source (c.Sign sign.Slash) x (y ∷ cs) ns b p.Fresh e ∙ at_class source (c.Sign sign.Slash) y cs ns b (p.Sign x.span sign.Slash) f ∙ lines r ns b ∙ complete d
   complete (l_block_comment {q} {b} {ms} {x} {y} {v} {w} {cs} {rest} e f r g h d) =
       let ns = m.Code q ∷ ms in let s = x.span.start in
-      at_class source c.Slash x (y ∷ cs) ns b p.Fresh e ∙ at_class source c.Star y cs ns b (p.Sign x.span sign.Slash) f ∙ blocks r s ns b
-      ∙ at_class source c.Star v (w ∷ rest) ns b (p.BlockComment s) g ∙ at_class source c.Slash w rest ns b (p.BlockStar s) h ∙ complete d
+      at_class source (c.Sign sign.Slash) x (y ∷ cs) ns b p.Fresh e ∙ at_class source (c.Sign sign.Star) y cs ns b (p.Sign x.span sign.Slash) f ∙ blocks r s ns b
+      ∙ at_class source (c.Sign sign.Star) v (w ∷ rest) ns b (p.BlockComment s) g ∙ at_class source (c.Sign sign.Slash) w rest ns b (p.BlockStar s) h ∙ complete d
   complete (l_block_open {q} {b} {ms} {x} {y} {cs} e f r) =
-      let ns = m.Code q ∷ ms in at_class source c.Slash x (y ∷ cs) ns b p.Fresh e ∙ at_class source c.Star y cs ns b (p.Sign x.span sign.Slash) f ∙ blocks r x.span.start ns b
+      let ns = m.Code q ∷ ms in at_class source (c.Sign sign.Slash) x (y ∷ cs) ns b p.Fresh e ∙ at_class source (c.Sign sign.Star) y cs ns b (p.Sign x.span sign.Slash) f ∙ blocks r x.span.start ns b
   complete (l_word {q} {b} {ms} {x} {cs} {rest} h r d) =
       let ns = m.Code q ∷ ms in
       ap (follows (lexed source cs)) (t.code_word source x (class x) q b ms h) ∙ words r x.span.start ns b ∙ word_ends rest x.span.start ns b (run_stops r)
@@ -394,16 +395,16 @@ module _ (source : List ℕ) where
   complete (g_space {q} {v} {b} {ms} {x} {cs} h d) = ap (follows (lexed source cs)) (t.tag_space source x (class x) q v b ms h) ∙ complete d
   complete (g_name {q} {v} {b} {ms} {x} {cs} {rest} e r d) =
       at_class source c.Letter x cs (m.Tag q v ∷ ms) b p.Fresh e ∙ attributes r x.span.start (m.Tag q v ∷ ms) b ∙ ap (token k.AttributeName (until source x rest)) (complete d)
-  complete (g_equals {q} {v} {b} {ms} {x} {cs} e d) = at_class source c.Equals x cs (m.Tag q v ∷ ms) b p.Fresh e ∙ ap (token k.Punctuator x.span) (complete d)
+  complete (g_equals {q} {v} {b} {ms} {x} {cs} e d) = at_class source (c.Sign sign.Equals) x cs (m.Tag q v ∷ ms) b p.Fresh e ∙ ap (token k.Punctuator x.span) (complete d)
   complete (g_quoted {q} {v} {b} {ms} {x} {y} {cs} {rest} {u = u} h r d) =
       let ns = m.Tag q v ∷ ms in let s = x.span.start in
       ap (follows (lexed source cs)) (t.tag_quote source x (class x) u q v b ms h) ∙ values u r s ns b
       ∙ ap (follows (lexed source rest)) (t.value_ends source y (class y) s u b ns (not_end y.value) (run_stops r)) ∙ ap (token k.Quoted (through x y)) (complete d)
   complete (g_quoted_open {q} {v} {b} {ms} {x} {cs} {u} h r) = ap (follows (lexed source cs)) (t.tag_quote source x (class x) u q v b ms h) ∙ values u r x.span.start (m.Tag q v ∷ ms) b
   complete (g_empty {q} {v} {b} {ms} {x} {y} {cs} e f d) =
-      let ns = m.Tag q v ∷ ms in at_class source c.Slash x (y ∷ cs) ns b p.Fresh e ∙ at_class source c.Greater y cs ns b (p.TagSlash x.span.start) f ∙ ap (token k.TagEnd (through x y)) (complete d)
-  complete (g_void {q} {b} {ms} {x} {cs} e d) = at_class source c.Greater x cs (m.Tag q true ∷ ms) b p.Fresh e ∙ ap (token k.TagEnd x.span) (complete d)
-  complete (g_children {q} {b} {ms} {x} {cs} e d) = at_class source c.Greater x cs (m.Tag q false ∷ ms) b p.Fresh e ∙ ap (token k.TagEnd x.span) (complete d)
+      let ns = m.Tag q v ∷ ms in at_class source (c.Sign sign.Slash) x (y ∷ cs) ns b p.Fresh e ∙ at_class source (c.Sign sign.Greater) y cs ns b (p.TagSlash x.span.start) f ∙ ap (token k.TagEnd (through x y)) (complete d)
+  complete (g_void {q} {b} {ms} {x} {cs} e d) = at_class source (c.Sign sign.Greater) x cs (m.Tag q true ∷ ms) b p.Fresh e ∙ ap (token k.TagEnd x.span) (complete d)
+  complete (g_children {q} {b} {ms} {x} {cs} e d) = at_class source (c.Sign sign.Greater) x cs (m.Tag q false ∷ ms) b p.Fresh e ∙ ap (token k.TagEnd x.span) (complete d)
   complete (g_bad {q} {v} {b} {ms} {x} {cs} h) = tag_nothing (class x) x cs q v ms b refl h
   complete h_end = refl
   complete (h_text {q} {b} {ms} {x} {cs} {rest} h r d) =
@@ -411,23 +412,23 @@ module _ (source : List ℕ) where
       child_begins (class x) x cs q ms b refl h ∙ child_texts r x.span.start ns b ∙ child_ends rest x.span.start q ms b (run_stops r) ∙ ap (token k.ChildText (until source x rest)) (complete d)
   complete (h_close {q} {b} {ms} {x} {y} {z} {cs} {rest} e f r g d) =
       let ns = m.Children q ∷ ms in let s = x.span.start in
-      at_class source c.Less x (y ∷ cs) ns b p.Fresh e ∙ at_class source c.Slash y cs ns b (p.ChildLess s) f ∙ close_names r s ns b ∙ at_class source c.Greater z rest ns b (p.CloseSpace s) g
+      at_class source (c.Sign sign.Less) x (y ∷ cs) ns b p.Fresh e ∙ at_class source (c.Sign sign.Slash) y cs ns b (p.ChildLess s) f ∙ close_names r s ns b ∙ at_class source (c.Sign sign.Greater) z rest ns b (p.CloseSpace s) g
       ∙ ap (token k.CloseTag (through x z)) (complete d)
   complete (h_close_bad {q} {b} {ms} {x} {y} {z} {cs} {rest} e f r g) =
       let ns = m.Children q ∷ ms in let s = x.span.start in
-      at_class source c.Less x (y ∷ cs) ns b p.Fresh e ∙ at_class source c.Slash y cs ns b (p.ChildLess s) f ∙ close_names r s ns b
+      at_class source (c.Sign sign.Less) x (y ∷ cs) ns b p.Fresh e ∙ at_class source (c.Sign sign.Slash) y cs ns b (p.ChildLess s) f ∙ close_names r s ns b
       ∙ ap (follows (lexed source rest)) (t.close_space_bad source z (class z) s b ns (close_stops r) g (not_end z.value))
   complete (h_close_unnamed {q} {b} {ms} {x} {y} {z} {cs} e f g) =
       let ns = m.Children q ∷ ms in let s = x.span.start in
-      at_class source c.Less x (y ∷ z ∷ cs) ns b p.Fresh e ∙ at_class source c.Slash y (z ∷ cs) ns b (p.ChildLess s) f
+      at_class source (c.Sign sign.Less) x (y ∷ z ∷ cs) ns b p.Fresh e ∙ at_class source (c.Sign sign.Slash) y (z ∷ cs) ns b (p.ChildLess s) f
       ∙ ap (follows (lexed source cs)) (t.close_start_bad source z (class z) s b ns g (not_end z.value))
   complete (h_close_open {q} {b} {ms} {x} {y} {cs} e f r) =
       let ns = m.Children q ∷ ms in let s = x.span.start in
-      at_class source c.Less x (y ∷ cs) ns b p.Fresh e ∙ at_class source c.Slash y cs ns b (p.ChildLess s) f ∙ close_names r s ns b
+      at_class source (c.Sign sign.Less) x (y ∷ cs) ns b p.Fresh e ∙ at_class source (c.Sign sign.Slash) y cs ns b (p.ChildLess s) f ∙ close_names r s ns b
   complete (h_close_end {q} {b} {ms} {x} {y} e f) =
-      let ns = m.Children q ∷ ms in at_class source c.Less x (y ∷ []) ns b p.Fresh e ∙ at_class source c.Slash y [] ns b (p.ChildLess x.span.start) f
+      let ns = m.Children q ∷ ms in at_class source (c.Sign sign.Less) x (y ∷ []) ns b p.Fresh e ∙ at_class source (c.Sign sign.Slash) y [] ns b (p.ChildLess x.span.start) f
   complete (h_bad {q} {b} {ms} {x} {cs} e h) =
-      let ns = m.Children q ∷ ms in at_class source c.Less x cs ns b p.Fresh e
+      let ns = m.Children q ∷ ms in at_class source (c.Sign sign.Less) x cs ns b p.Fresh e
       ∙ stopped source cs ns b (p.ChildLess x.span.start) fault.BadCharacter x.span.start (t.child_less_nothing source (head source cs) (first cs) x.span.start b ns h)
 
   -- a text has one outcome

@@ -15,8 +15,8 @@ use Rattle.mt_lexer.specs.declared.mode.Before.{Before}
 use Rattle.mt_lexer.specs.declared.mode.Before.TheVariants as before
 use Rattle.mt_lexer.specs.declared.mode.Opener.{Opener}
 use Rattle.mt_lexer.specs.declared.mode.Opener.TheVariants as opener
-use Rattle.mt_lexer.specs.declared.mode.Quote.{Quote}
-use Rattle.mt_lexer.specs.declared.mode.Quote.TheVariants as quote
+use Rattle.mt_lexer.specs.declared.character.Quote.{Quote}
+use Rattle.mt_lexer.specs.declared.character.Quote.TheVariants as quote
 use Rattle.mt_lexer.specs.declared.part.OpenText.{OpenText}
 use Rattle.mt_lexer.specs.declared.part.Part.{Part}
 use Rattle.mt_lexer.specs.declared.part.Part.TheVariants as p
@@ -37,24 +37,11 @@ module _ (source : List ℕ) (x : SourceChar) where
   code_word _ q b ms h = absurd cc
 
   pub code_sign : (y : Class) (a : Sign) (q : Option ℕ) (b : Before) (ms : List Mode) → sign_of y ≡ Some a → code_by source x y q b ms ≡ go (m.Code q ∷ ms) b (p.Sign x.span a)
-  code_sign c.Equals a q b ms h = ap (λ (a : Sign). go (m.Code q ∷ ms) b (p.Sign x.span a)) cc
-  code_sign c.Exclamation a q b ms h = ap (λ (a : Sign). go (m.Code q ∷ ms) b (p.Sign x.span a)) cc
-  code_sign c.Less a q b ms h = ap (λ (a : Sign). go (m.Code q ∷ ms) b (p.Sign x.span a)) cc
-  code_sign c.Greater a q b ms h = ap (λ (a : Sign). go (m.Code q ∷ ms) b (p.Sign x.span a)) cc
-  code_sign c.Ampersand a q b ms h = ap (λ (a : Sign). go (m.Code q ∷ ms) b (p.Sign x.span a)) cc
-  code_sign c.Bar a q b ms h = ap (λ (a : Sign). go (m.Code q ∷ ms) b (p.Sign x.span a)) cc
-  code_sign c.Plus a q b ms h = ap (λ (a : Sign). go (m.Code q ∷ ms) b (p.Sign x.span a)) cc
-  code_sign c.Minus a q b ms h = ap (λ (a : Sign). go (m.Code q ∷ ms) b (p.Sign x.span a)) cc
-  code_sign c.Star a q b ms h = ap (λ (a : Sign). go (m.Code q ∷ ms) b (p.Sign x.span a)) cc
-  code_sign c.Slash a q b ms h = ap (λ (a : Sign). go (m.Code q ∷ ms) b (p.Sign x.span a)) cc
-  code_sign c.Percent a q b ms h = ap (λ (a : Sign). go (m.Code q ∷ ms) b (p.Sign x.span a)) cc
-  code_sign c.Tilde a q b ms h = ap (λ (a : Sign). go (m.Code q ∷ ms) b (p.Sign x.span a)) cc
-  code_sign c.Dollar a q b ms h = ap (λ (a : Sign). go (m.Code q ∷ ms) b (p.Sign x.span a)) cc
+  code_sign (c.Sign s) a q b ms h = ap (λ (a : Sign). go (m.Code q ∷ ms) b (p.Sign x.span a)) cc
   code_sign _ a q b ms h = absurd cc
 
   pub code_quote : (y : Class) (u : Quote) (q : Option ℕ) (b : Before) (ms : List Mode) → quote_of y ≡ Some u → code_by source x y q b ms ≡ go (m.Code q ∷ ms) b (p.Text (record { start = x.span.start; quote = u }))
-  code_quote c.DoubleQuote u q b ms h = ap (λ (u : Quote). go (m.Code q ∷ ms) b (p.Text (record { start = x.span.start; quote = u }))) cc
-  code_quote c.SingleQuote u q b ms h = ap (λ (u : Quote). go (m.Code q ∷ ms) b (p.Text (record { start = x.span.start; quote = u }))) cc
+  code_quote (c.Quote w) u q b ms h = ap (λ (u : Quote). go (m.Code q ∷ ms) b (p.Text (record { start = x.span.start; quote = u }))) cc
   code_quote _ u q b ms h = absurd cc
 
   pub code_single : (y : Class) (q : Option ℕ) (b : Before) (ms : List Mode) → is_single y ≡ true → code_by source x y q b ms ≡ emit k.Punctuator x.span (go (m.Code q ∷ ms) (before_single y) p.Fresh)
@@ -81,10 +68,10 @@ module _ (source : List ℕ) (x : SourceChar) where
   number_ends _ s b ms h = refl
 
   pub text_stays : (y : Class) (s : ℕ) (u : Quote) (b : Before) (ms : List Mode) → is_plain u y ≡ true → text_by source x y (record { start = s; quote = u }) b ms ≡ go ms b (p.Text (record { start = s; quote = u }))
-  text_stays c.DoubleQuote s quote.Double b ms h = absurd cc
-  text_stays c.DoubleQuote s quote.Single b ms h = refl
-  text_stays c.SingleQuote s quote.Double b ms h = refl
-  text_stays c.SingleQuote s quote.Single b ms h = absurd cc
+  text_stays (c.Quote quote.Double) s quote.Double b ms h = absurd cc
+  text_stays (c.Quote quote.Double) s quote.Single b ms h = refl
+  text_stays (c.Quote quote.Single) s quote.Double b ms h = refl
+  text_stays (c.Quote quote.Single) s quote.Single b ms h = absurd cc
   text_stays c.Backslash s quote.Double b ms h = absurd cc
   text_stays c.Backslash s quote.Single b ms h = absurd cc
   text_stays c.LineFeed s quote.Double b ms h = absurd cc
@@ -96,8 +83,8 @@ module _ (source : List ℕ) (x : SourceChar) where
   text_stays _ s u b ms h = refl
 
   pub text_ends : (y : Class) (s : ℕ) (u : Quote) (b : Before) (ms : List Mode) → closes u y ≡ true → text_by source x y (record { start = s; quote = u }) b ms ≡ text_closed source x (record { start = s; quote = u }) ms
-  text_ends c.DoubleQuote s quote.Double b ms h = refl
-  text_ends c.SingleQuote s quote.Single b ms h = refl
+  text_ends (c.Quote quote.Double) s quote.Double b ms h = refl
+  text_ends (c.Quote quote.Single) s quote.Single b ms h = refl
   text_ends _ s quote.Double b ms h = absurd cc
   text_ends _ s quote.Single b ms h = absurd cc
 
@@ -118,21 +105,21 @@ module _ (source : List ℕ) (x : SourceChar) where
   line_ends _ b ms h = absurd cc
 
   pub star_back : (y : Class) (s : ℕ) (b : Before) (ms : List Mode) → is_slash y ≡ false → step_by source x (p.BlockStar s) y b ms ≡ step_by source x (p.BlockComment s) y b ms
-  star_back c.Slash s b ms h = absurd cc
+  star_back (c.Sign sign.Slash) s b ms h = absurd cc
   star_back _ s b ms h = refl
 
   pub value_stays : (y : Class) (s : ℕ) (u : Quote) (b : Before) (ms : List Mode) → in_value u y ≡ true → value_by source x y s u b ms ≡ go ms b (p.Quoted s u)
-  value_stays c.DoubleQuote s quote.Double b ms h = absurd cc
-  value_stays c.DoubleQuote s quote.Single b ms h = refl
-  value_stays c.SingleQuote s quote.Double b ms h = refl
-  value_stays c.SingleQuote s quote.Single b ms h = absurd cc
+  value_stays (c.Quote quote.Double) s quote.Double b ms h = absurd cc
+  value_stays (c.Quote quote.Double) s quote.Single b ms h = refl
+  value_stays (c.Quote quote.Single) s quote.Double b ms h = refl
+  value_stays (c.Quote quote.Single) s quote.Single b ms h = absurd cc
   value_stays c.End s quote.Double b ms h = absurd cc
   value_stays c.End s quote.Single b ms h = absurd cc
   value_stays _ s u b ms h = refl
 
   pub value_ends : (y : Class) (s : ℕ) (u : Quote) (b : Before) (ms : List Mode) → y ≢ c.End → in_value u y ≡ false → value_by source x y s u b ms ≡ emit k.Quoted (upto source x s) (go ms before.Other p.Fresh)
-  value_ends c.DoubleQuote s quote.Double b ms e h = refl
-  value_ends c.SingleQuote s quote.Single b ms e h = refl
+  value_ends (c.Quote quote.Double) s quote.Double b ms e h = refl
+  value_ends (c.Quote quote.Single) s quote.Single b ms e h = refl
   value_ends c.End s u b ms e h = absurd (e refl)
   value_ends _ s quote.Double b ms e h = absurd cc
   value_ends _ s quote.Single b ms e h = absurd cc
@@ -140,23 +127,23 @@ module _ (source : List ℕ) (x : SourceChar) where
   -- ---- signs
 
   pub two_joined : (a : Sign) (y : Class) (s : Span) (b : Before) (ms : List Mode) → is_two a y ≡ true → sign_by source x y s a b ms ≡ joined source x s (before_two a y) ms
-  two_joined sign.Less c.Equals s b ms h = refl
-  two_joined sign.Greater c.Equals s b ms h = refl
-  two_joined sign.Ampersand c.Ampersand s b ms h = refl
-  two_joined sign.Bar c.Bar s b ms h = refl
-  two_joined sign.Plus c.Plus s b ms h = refl
-  two_joined sign.Plus c.Equals s b ms h = refl
-  two_joined sign.Minus c.Minus s b ms h = refl
-  two_joined sign.Minus c.Equals s b ms h = refl
-  two_joined sign.Star c.Equals s b ms h = refl
-  two_joined sign.Slash c.Equals s b ms h = refl
-  two_joined sign.Percent c.Equals s b ms h = refl
+  two_joined sign.Less (c.Sign sign.Equals) s b ms h = refl
+  two_joined sign.Greater (c.Sign sign.Equals) s b ms h = refl
+  two_joined sign.Ampersand (c.Sign sign.Ampersand) s b ms h = refl
+  two_joined sign.Bar (c.Sign sign.Bar) s b ms h = refl
+  two_joined sign.Plus (c.Sign sign.Plus) s b ms h = refl
+  two_joined sign.Plus (c.Sign sign.Equals) s b ms h = refl
+  two_joined sign.Minus (c.Sign sign.Minus) s b ms h = refl
+  two_joined sign.Minus (c.Sign sign.Equals) s b ms h = refl
+  two_joined sign.Star (c.Sign sign.Equals) s b ms h = refl
+  two_joined sign.Slash (c.Sign sign.Equals) s b ms h = refl
+  two_joined sign.Percent (c.Sign sign.Equals) s b ms h = refl
   two_joined _ _ s b ms h = absurd cc
 
   pub strayed : (a : Sign) (y : Class) (s : Span) (b : Before) (ms : List Mode) → is_stray a y ≡ true → sign_by source x y s a b ms ≡ stop fault.BadCharacter s.start
-  strayed sign.Ampersand c.Ampersand s b ms h = absurd cc
+  strayed sign.Ampersand (c.Sign sign.Ampersand) s b ms h = absurd cc
   strayed sign.Ampersand _ s b ms h = refl
-  strayed sign.Bar c.Bar s b ms h = absurd cc
+  strayed sign.Bar (c.Sign sign.Bar) s b ms h = absurd cc
   strayed sign.Bar _ s b ms h = refl
   strayed sign.Tilde c.OpenBrace s b ms h = absurd cc
   strayed sign.Tilde _ s b ms h = refl
@@ -165,11 +152,11 @@ module _ (source : List ℕ) (x : SourceChar) where
   strayed _ y s b ms h = absurd cc
 
   pub equals_alone : (y : Class) (s : Span) (b : Before) (ms : List Mode) → is_equals y ≡ false → equals_by source x y s b ms ≡ alone source x s y ms
-  equals_alone c.Equals s b ms h = absurd cc
+  equals_alone (c.Sign sign.Equals) s b ms h = absurd cc
   equals_alone _ s b ms h = refl
 
   pub less_alone : (b : Before) (y : Class) (s : Span) (ms : List Mode) → (not (is_equals y) && not (is_letter y && allows_tag b)) ≡ true → less_by source x y s b ms ≡ alone source x s y ms
-  less_alone b c.Equals s ms h = absurd cc
+  less_alone b (c.Sign sign.Equals) s ms h = absurd cc
   less_alone before.Operand c.Letter s ms h = refl
   less_alone before.Dot c.Letter s ms h = absurd cc
   less_alone before.Other c.Letter s ms h = absurd cc
@@ -177,7 +164,7 @@ module _ (source : List ℕ) (x : SourceChar) where
 
   pub child_less_nothing : (y : Class) (s : ℕ) (b : Before) (ms : List Mode) → follows_no_less y ≡ true → child_less_by source x y s b ms ≡ stop fault.BadCharacter s
   child_less_nothing c.Letter s b ms h = absurd cc
-  child_less_nothing c.Slash s b ms h = absurd cc
+  child_less_nothing (c.Sign sign.Slash) s b ms h = absurd cc
   child_less_nothing _ s b ms h = refl
 
   -- a sign of one character, but for `=` and `!`
@@ -190,23 +177,23 @@ module _ (source : List ℕ) (x : SourceChar) where
   one_alone sign.Equals y z s b ms e h = absurd cc
   one_alone sign.Exclamation y z s b ms e h = absurd cc
   one_alone sign.Less y z s b ms e h = less_alone b y s ms h
-  one_alone sign.Greater c.Equals z s b ms e h = absurd cc
+  one_alone sign.Greater (c.Sign sign.Equals) z s b ms e h = absurd cc
   one_alone sign.Greater _ z s b ms e h = refl
   one_alone sign.Ampersand y z s b ms e h = absurd cc
   one_alone sign.Bar y z s b ms e h = absurd cc
-  one_alone sign.Plus c.Plus z s b ms e h = absurd cc
-  one_alone sign.Plus c.Equals z s b ms e h = absurd cc
+  one_alone sign.Plus (c.Sign sign.Plus) z s b ms e h = absurd cc
+  one_alone sign.Plus (c.Sign sign.Equals) z s b ms e h = absurd cc
   one_alone sign.Plus _ z s b ms e h = refl
-  one_alone sign.Minus c.Minus z s b ms e h = absurd cc
-  one_alone sign.Minus c.Equals z s b ms e h = absurd cc
+  one_alone sign.Minus (c.Sign sign.Minus) z s b ms e h = absurd cc
+  one_alone sign.Minus (c.Sign sign.Equals) z s b ms e h = absurd cc
   one_alone sign.Minus _ z s b ms e h = refl
-  one_alone sign.Star c.Equals z s b ms e h = absurd cc
+  one_alone sign.Star (c.Sign sign.Equals) z s b ms e h = absurd cc
   one_alone sign.Star _ z s b ms e h = refl
-  one_alone sign.Slash c.Equals z s b ms e h = absurd cc
-  one_alone sign.Slash c.Slash z s b ms e h = absurd cc
-  one_alone sign.Slash c.Star z s b ms e h = absurd cc
+  one_alone sign.Slash (c.Sign sign.Equals) z s b ms e h = absurd cc
+  one_alone sign.Slash (c.Sign sign.Slash) z s b ms e h = absurd cc
+  one_alone sign.Slash (c.Sign sign.Star) z s b ms e h = absurd cc
   one_alone sign.Slash _ z s b ms e h = refl
-  one_alone sign.Percent c.Equals z s b ms e h = absurd cc
+  one_alone sign.Percent (c.Sign sign.Equals) z s b ms e h = absurd cc
   one_alone sign.Percent _ z s b ms e h = refl
   one_alone sign.Tilde y z s b ms e h = absurd cc
   one_alone sign.Dollar y z s b ms e h = absurd cc
@@ -220,16 +207,15 @@ module _ (source : List ℕ) (x : SourceChar) where
   tag_space _ q v b ms h = absurd cc
 
   pub tag_quote : (y : Class) (u : Quote) (q : ℕ) (v : Bool) (b : Before) (ms : List Mode) → quote_of y ≡ Some u → tag_by source x y q v b ms ≡ go (m.Tag q v ∷ ms) b (p.Quoted x.span.start u)
-  tag_quote c.DoubleQuote u q v b ms h = ap (λ (u : Quote). go (m.Tag q v ∷ ms) b (p.Quoted x.span.start u)) cc
-  tag_quote c.SingleQuote u q v b ms h = ap (λ (u : Quote). go (m.Tag q v ∷ ms) b (p.Quoted x.span.start u)) cc
+  tag_quote (c.Quote w) u q v b ms h = ap (λ (u : Quote). go (m.Tag q v ∷ ms) b (p.Quoted x.span.start u)) cc
   tag_quote _ u q v b ms h = absurd cc
 
   -- ---- children
 
-  pub child_text_stays : (y : Class) (s : ℕ) (b : Before) (ms : List Mode) → y ≢ c.Tilde → y ≢ c.Dollar → in_child_text y c.End ≡ true → child_text_by source x y s b ms ≡ go ms b (p.ChildText s)
-  child_text_stays c.Tilde s b ms f g h = absurd (f refl)
-  child_text_stays c.Dollar s b ms f g h = absurd (g refl)
-  child_text_stays c.Less s b ms f g h = absurd cc
+  pub child_text_stays : (y : Class) (s : ℕ) (b : Before) (ms : List Mode) → y ≢ (c.Sign sign.Tilde) → y ≢ (c.Sign sign.Dollar) → in_child_text y c.End ≡ true → child_text_by source x y s b ms ≡ go ms b (p.ChildText s)
+  child_text_stays (c.Sign sign.Tilde) s b ms f g h = absurd (f refl)
+  child_text_stays (c.Sign sign.Dollar) s b ms f g h = absurd (g refl)
+  child_text_stays (c.Sign sign.Less) s b ms f g h = absurd cc
   child_text_stays c.End s b ms f g h = absurd cc
   child_text_stays _ s b ms f g h = refl
 
@@ -244,11 +230,11 @@ module _ (source : List ℕ) (x : SourceChar) where
   close_space_stays c.CarriageReturn s b ms h = refl
   close_space_stays _ s b ms h = absurd cc
 
-  pub close_space_bad : (y : Class) (s : ℕ) (b : Before) (ms : List Mode) → is_space y ≡ false → y ≢ c.Greater → y ≢ c.End → close_space_by source x y s b ms ≡ stop fault.BadCharacter x.span.start
+  pub close_space_bad : (y : Class) (s : ℕ) (b : Before) (ms : List Mode) → is_space y ≡ false → y ≢ (c.Sign sign.Greater) → y ≢ c.End → close_space_by source x y s b ms ≡ stop fault.BadCharacter x.span.start
   close_space_bad c.White s b ms e f g = absurd cc
   close_space_bad c.LineFeed s b ms e f g = absurd cc
   close_space_bad c.CarriageReturn s b ms e f g = absurd cc
-  close_space_bad c.Greater s b ms e f g = absurd (f refl)
+  close_space_bad (c.Sign sign.Greater) s b ms e f g = absurd (f refl)
   close_space_bad c.End s b ms e f g = absurd (g refl)
   close_space_bad _ s b ms e f g = refl
 
@@ -262,5 +248,5 @@ module _ (source : List ℕ) (x : SourceChar) where
   child_alone _ at a b ms h = refl
 
   pub tag_slash_bad : (y : Class) (s : ℕ) (ms : List Mode) → is_greater y ≡ false → tag_slash_by source x y s ms ≡ stop fault.BadCharacter s
-  tag_slash_bad c.Greater s ms h = absurd cc
+  tag_slash_bad (c.Sign sign.Greater) s ms h = absurd cc
   tag_slash_bad _ s ms h = refl

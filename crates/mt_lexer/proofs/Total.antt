@@ -14,8 +14,8 @@ use Rattle.mt_lexer.specs.declared.mode.Before.{Before}
 use Rattle.mt_lexer.specs.declared.mode.Before.TheVariants as before
 use Rattle.mt_lexer.specs.declared.mode.Opener.{Opener}
 use Rattle.mt_lexer.specs.declared.mode.Opener.TheVariants as opener
-use Rattle.mt_lexer.specs.declared.mode.Quote.{Quote}
-use Rattle.mt_lexer.specs.declared.mode.Quote.TheVariants as quote
+use Rattle.mt_lexer.specs.declared.character.Quote.{Quote}
+use Rattle.mt_lexer.specs.declared.character.Quote.TheVariants as quote
 use Rattle.mt_lexer.specs.declared.part.Part.TheVariants as p
 use Rattle.mt_lexer.specs.Character.{Chars, class_of, class, first, second, place, between, until, through, text_of}
 use Rattle.mt_lexer.specs.Sign.{is_space, is_letter, is_digit, is_slash, is_equals, is_open_brace, is_greater, starts_name, continues_name, continues_tag, continues_attribute, spoils_number, in_line, in_block, in_child_text, opener_of, opener_kind, quote_of, closes, is_plain, ends_line, in_value, sign_of, is_single, before_single, is_three, is_two, before_two, is_one, is_stray, begins_nothing, begins_nothing_in_tag, follows_no_less, allows_tag}
@@ -137,10 +137,10 @@ text_by c.Backslash s u x cs e f g later = by_escape (escape cs) refl (escape_sh
 text_by c.LineFeed s u x cs e f g later = (broken fault.Unclosed s, text_unclosed (ap ends_line e), tt)
 text_by c.CarriageReturn s u x cs e f g later = (broken fault.Unclosed s, text_unclosed (ap ends_line e), tt)
 text_by c.End s u x cs e f g later = absurd (not_end x.value e)
-text_by c.DoubleQuote s quote.Double x cs e f g later = absurd cc
-text_by c.DoubleQuote s quote.Single x cs e f g later = absurd cc
-text_by c.SingleQuote s quote.Double x cs e f g later = absurd cc
-text_by c.SingleQuote s quote.Single x cs e f g later = absurd cc
+text_by (c.Quote quote.Double) s quote.Double x cs e f g later = absurd cc
+text_by (c.Quote quote.Double) s quote.Single x cs e f g later = absurd cc
+text_by (c.Quote quote.Single) s quote.Double x cs e f g later = absurd cc
+text_by (c.Quote quote.Single) s quote.Single x cs e f g later = absurd cc
 text_by _ s quote.Double x cs e f g later = absurd cc
 text_by _ s quote.Single x cs e f g later = absurd cc
 
@@ -195,7 +195,7 @@ module _ (source : List ℕ) where
         by_rest [] h next = absurd cc
         by_rest (y ∷ rest) h next = let d = next rest (omega arith) in (token (opener_kind a) (through x y) d.0, l_opener e (is_open (class y) h) d.1)
 
-    tag_has : (z : Mode) (ms : List Mode) → class x ≡ c.Less → first cs ≡ c.Letter → opens_tag z b ≡ true → Rooted (z ∷ ms) → Some_outcome (z ∷ ms) b (x ∷ cs)
+    tag_has : (z : Mode) (ms : List Mode) → class x ≡ (c.Sign sign.Less) → first cs ≡ c.Letter → opens_tag z b ≡ true → Rooted (z ∷ ms) → Some_outcome (z ∷ ms) b (x ∷ cs)
     tag_has z ms e f h r = by_rest cs f (λ n rest l. later (m.Tag x.span.start n ∷ z ∷ ms) before.Other rest (Rooted-push (m.Tag x.span.start n) (z ∷ ms) r) l)
       where
         by_rest : (cs : Chars) → first cs ≡ c.Letter → ((v : Bool) (rest : Chars) → length rest ≤ length cs → Some_outcome (m.Tag x.span.start v ∷ z ∷ ms) before.Other rest) → Some_outcome (z ∷ ms) b (x ∷ cs)
@@ -242,36 +242,36 @@ module _ (source : List ℕ) where
       three_has a (y ∷ []) e h both next = let g = (both h).1 in absurd cc
       three_has a (y ∷ z ∷ rest) e h both next = let d = next before.Other rest (omega arith) in (token k.Punctuator (through x z) d.0, l_three e h d.1)
 
-      comment_has : (cs : Chars) → class x ≡ c.Slash → first cs ≡ c.Slash → ((d : Before) (rest : Chars) → length rest ≤ length cs → Some_outcome (m.Code q ∷ ms) d rest) → Some_outcome (m.Code q ∷ ms) b (x ∷ cs)
+      comment_has : (cs : Chars) → class x ≡ (c.Sign sign.Slash) → first cs ≡ (c.Sign sign.Slash) → ((d : Before) (rest : Chars) → length rest ≤ length cs → Some_outcome (m.Code q ∷ ms) d rest) → Some_outcome (m.Code q ∷ ms) b (x ∷ cs)
       comment_has [] e f next = absurd cc
       comment_has (y ∷ rest) e f next = let r = run_has (λ v w. in_line v) rest refl in let d = next b r.0 (omega (arith, r.2)) in (d.0, l_line_comment e f r.1 d.1)
 
-      block_has : (cs : Chars) → class x ≡ c.Slash → first cs ≡ c.Star → ((d : Before) (rest : Chars) → length rest ≤ length cs → Some_outcome (m.Code q ∷ ms) d rest) → Some_outcome (m.Code q ∷ ms) b (x ∷ cs)
+      block_has : (cs : Chars) → class x ≡ (c.Sign sign.Slash) → first cs ≡ (c.Sign sign.Star) → ((d : Before) (rest : Chars) → length rest ≤ length cs → Some_outcome (m.Code q ∷ ms) d rest) → Some_outcome (m.Code q ∷ ms) b (x ∷ cs)
       block_has [] e f next = absurd cc
       block_has (y ∷ body) e f next = let r = run_has in_block body refl in by_rest r.0 r.1 r.2
         where
           by_class : (v : Class) (w : SourceChar) (rest : Chars) → class w ≡ v → in_block v (first rest) ≡ false → Run in_block body (w ∷ rest) → length (w ∷ rest) ≤ length body → Some_outcome (m.Code q ∷ ms) b (x ∷ y ∷ body)
           by_class c.End w rest g h r l = absurd (not_end w.value g)
-          by_class c.Star w [] g h r l = absurd cc
-          by_class c.Star w (u ∷ rest) g h r l =
+          by_class (c.Sign sign.Star) w [] g h r l = absurd cc
+          by_class (c.Sign sign.Star) w (u ∷ rest) g h r l =
               let d = next b rest (omega arith) in (d.0, l_block_comment e f r g (slash (class u) (not_false (is_slash (class u)) h)) d.1)
             where
-              slash : (y : Class) → is_slash y ≡ true → y ≡ c.Slash
-              slash c.Slash h = refl
+              slash : (y : Class) → is_slash y ≡ true → y ≡ (c.Sign sign.Slash)
+              slash (c.Sign sign.Slash) h = refl
               slash _ h = absurd cc
           by_class _ w rest g h r l = absurd cc
           by_rest : (rest : Chars) → Run in_block body rest → length rest ≤ length body → Some_outcome (m.Code q ∷ ms) b (x ∷ y ∷ body)
           by_rest [] r l = (refused fault.Unclosed x.span.start, l_block_open e f r)
           by_rest (w ∷ rest) r l = by_class (class w) w rest refl (run_stops r) r l
 
-      slash_has : (v : Class) → class x ≡ c.Slash → first cs ≡ v → Here
-      slash_has c.Slash e f = comment_has cs e f same
-      slash_has c.Star e f = block_has cs e f same
-      slash_has c.Equals e f = two_has sign.Slash cs (ap sign_of e) (ap (is_two sign.Slash) f) same
+      slash_has : (v : Class) → class x ≡ (c.Sign sign.Slash) → first cs ≡ v → Here
+      slash_has (c.Sign sign.Slash) e f = comment_has cs e f same
+      slash_has (c.Sign sign.Star) e f = block_has cs e f same
+      slash_has (c.Sign sign.Equals) e f = two_has sign.Slash cs (ap sign_of e) (ap (is_two sign.Slash) f) same
       slash_has v e f = one_has sign.Slash (ap sign_of e) (ap (λ (y : Class). is_one b sign.Slash y (second cs)) f)
 
-      less_has : (v : Class) → class x ≡ c.Less → first cs ≡ v → Here
-      less_has c.Equals e f = two_has sign.Less cs (ap sign_of e) (ap (is_two sign.Less) f) same
+      less_has : (v : Class) → class x ≡ (c.Sign sign.Less) → first cs ≡ v → Here
+      less_has (c.Sign sign.Equals) e f = two_has sign.Less cs (ap sign_of e) (ap (is_two sign.Less) f) same
       less_has c.Letter e f =
           decide (allows_tag b) (λ h. tag_has (m.Code q) ms e f h root)
           (λ h. one_has sign.Less (ap sign_of e) (ap (λ (y : Class). is_one b sign.Less y (second cs)) f ∙ ap (λ (v : Bool). not false && not (true && v)) h))
@@ -292,10 +292,10 @@ module _ (source : List ℕ) where
       sign_has v sign.Percent e h = two_or_one sign.Percent (ap sign_of e ∙ h) (λ f. ap (λ (v : Bool). not v && not false) f)
       sign_has v sign.Ampersand e h = decide (is_two sign.Ampersand (first cs)) (λ f. two_has sign.Ampersand cs (ap sign_of e ∙ h) f same) (λ f. stray_has sign.Ampersand (ap sign_of e ∙ h) (ap not f))
       sign_has v sign.Bar e h = decide (is_two sign.Bar (first cs)) (λ f. two_has sign.Bar cs (ap sign_of e ∙ h) f same) (λ f. stray_has sign.Bar (ap sign_of e ∙ h) (ap not f))
-      sign_has c.Less sign.Less e h = less_has (first cs) e refl
-      sign_has c.Slash sign.Slash e h = slash_has (first cs) e refl
-      sign_has c.Tilde sign.Tilde e h = decide (is_open_brace (first cs)) (λ f. opener_has opener.Tilde (m.Code q) ms (ap opener_of e) f root) (λ f. stray_has sign.Tilde (ap sign_of e ∙ h) (ap not f))
-      sign_has c.Dollar sign.Dollar e h = decide (is_open_brace (first cs)) (λ f. opener_has opener.Dollar (m.Code q) ms (ap opener_of e) f root) (λ f. stray_has sign.Dollar (ap sign_of e ∙ h) (ap not f))
+      sign_has (c.Sign sign.Less) sign.Less e h = less_has (first cs) e refl
+      sign_has (c.Sign sign.Slash) sign.Slash e h = slash_has (first cs) e refl
+      sign_has (c.Sign sign.Tilde) sign.Tilde e h = decide (is_open_brace (first cs)) (λ f. opener_has opener.Tilde (m.Code q) ms (ap opener_of e) f root) (λ f. stray_has sign.Tilde (ap sign_of e ∙ h) (ap not f))
+      sign_has (c.Sign sign.Dollar) sign.Dollar e h = decide (is_open_brace (first cs)) (λ f. opener_has opener.Dollar (m.Code q) ms (ap opener_of e) f root) (λ f. stray_has sign.Dollar (ap sign_of e ∙ h) (ap not f))
       sign_has _ sign.Less e h = absurd cc
       sign_has _ sign.Slash e h = absurd cc
       sign_has _ sign.Tilde e h = absurd cc
@@ -339,27 +339,14 @@ module _ (source : List ℕ) where
     code_has c.NameStart q ms r e = word_has q ms r (ap starts_name e)
     code_has c.Zero q ms r e = number_has q ms r cs (subst (λ (y : Class). Digits y cs cs) (sym e) zero_alone) (omega arith)
     code_has c.Digit q ms r e = let d = run_has (λ v w. is_digit v) cs refl in number_has q ms r d.0 (subst (λ (y : Class). Digits y cs d.0) (sym e) (more_digits d.1)) d.2
-    code_has c.DoubleQuote q ms r e = text_of_code q ms r quote.Double (ap quote_of e)
-    code_has c.SingleQuote q ms r e = text_of_code q ms r quote.Single (ap quote_of e)
+    code_has (c.Quote u) q ms r e = text_of_code q ms r u (ap quote_of e)
     code_has c.OpenBrace q ms r e = let d = later (m.Code q ∷ m.Code q ∷ ms) before.Other cs (Rooted-push (m.Code q) (m.Code q ∷ ms) r) (omega arith) in (token k.Punctuator x.span d.0, l_brace e d.1)
     code_has c.CloseBrace q ms r e = close_has q ms r e
     code_has c.Closing q ms r e = single_has q ms r (ap is_single e)
     code_has c.Dot q ms r e = single_has q ms r (ap is_single e)
     code_has c.Colon q ms r e = single_has q ms r (ap is_single e)
     code_has c.Separator q ms r e = single_has q ms r (ap is_single e)
-    code_has c.Equals q ms r e = sign_has q ms r c.Equals sign.Equals e refl
-    code_has c.Exclamation q ms r e = sign_has q ms r c.Exclamation sign.Exclamation e refl
-    code_has c.Less q ms r e = sign_has q ms r c.Less sign.Less e refl
-    code_has c.Greater q ms r e = sign_has q ms r c.Greater sign.Greater e refl
-    code_has c.Ampersand q ms r e = sign_has q ms r c.Ampersand sign.Ampersand e refl
-    code_has c.Bar q ms r e = sign_has q ms r c.Bar sign.Bar e refl
-    code_has c.Plus q ms r e = sign_has q ms r c.Plus sign.Plus e refl
-    code_has c.Minus q ms r e = sign_has q ms r c.Minus sign.Minus e refl
-    code_has c.Star q ms r e = sign_has q ms r c.Star sign.Star e refl
-    code_has c.Slash q ms r e = sign_has q ms r c.Slash sign.Slash e refl
-    code_has c.Percent q ms r e = sign_has q ms r c.Percent sign.Percent e refl
-    code_has c.Tilde q ms r e = sign_has q ms r c.Tilde sign.Tilde e refl
-    code_has c.Dollar q ms r e = sign_has q ms r c.Dollar sign.Dollar e refl
+    code_has (c.Sign a) q ms r e = sign_has q ms r (c.Sign a) a e refl
     code_has c.NameContinue q ms r e = (refused fault.BadCharacter x.span.start, l_bad (ap begins_nothing e))
     code_has c.Backslash q ms r e = (refused fault.BadCharacter x.span.start, l_bad (ap begins_nothing e))
     code_has c.Other q ms r e = (refused fault.BadCharacter x.span.start, l_bad (ap begins_nothing e))
@@ -384,15 +371,15 @@ module _ (source : List ℕ) where
           by_rest [] r l = (refused fault.Unclosed q, g_quoted_open e r)
           by_rest (y ∷ rest) r l = let d = tag_same before.Other rest (omega arith) in (token k.Quoted (through x y) d.0, g_quoted e r d.1)
 
-      empty_has : (cs : Chars) → class x ≡ c.Slash → is_greater (first cs) ≡ true → ((rest : Chars) → length rest ≤ length cs → Some_outcome ms before.Other rest) → Some_outcome (m.Tag q v ∷ ms) b (x ∷ cs)
+      empty_has : (cs : Chars) → class x ≡ (c.Sign sign.Slash) → is_greater (first cs) ≡ true → ((rest : Chars) → length rest ≤ length cs → Some_outcome ms before.Other rest) → Some_outcome (m.Tag q v ∷ ms) b (x ∷ cs)
       empty_has [] e f next = absurd cc
       empty_has (y ∷ rest) e f next = let d = next rest (omega arith) in (token k.TagEnd (through x y) d.0, g_empty e (greater (class y) f) d.1)
         where
-          greater : (y : Class) → is_greater y ≡ true → y ≡ c.Greater
-          greater c.Greater h = refl
+          greater : (y : Class) → is_greater y ≡ true → y ≡ (c.Sign sign.Greater)
+          greater (c.Sign sign.Greater) h = refl
           greater _ h = absurd cc
 
-    tag_end_has : (q : ℕ) (v : Bool) (ms : List Mode) → Rooted (m.Tag q v ∷ ms) → class x ≡ c.Greater → Some_outcome (m.Tag q v ∷ ms) b (x ∷ cs)
+    tag_end_has : (q : ℕ) (v : Bool) (ms : List Mode) → Rooted (m.Tag q v ∷ ms) → class x ≡ (c.Sign sign.Greater) → Some_outcome (m.Tag q v ∷ ms) b (x ∷ cs)
     tag_end_has q true ms r e = let d = later ms before.Other cs (Rooted-tag q true ms r) (omega arith) in (token k.TagEnd x.span d.0, g_void e d.1)
     tag_end_has q false ms r e =
         let d = later (m.Children q ∷ ms) before.Other cs (Rooted-push (m.Children q) ms (Rooted-tag q false ms r)) (omega arith) in (token k.TagEnd x.span d.0, g_children e d.1)
@@ -404,16 +391,16 @@ module _ (source : List ℕ) where
     tag_mode_has c.CarriageReturn q v ms r e = tag_space q v ms r (ap is_space e)
     tag_mode_has c.Letter q v ms r e =
         let d = run_has (λ v w. continues_attribute v) cs refl in let o = tag_same q v ms r before.Other d.0 d.2 in (token k.AttributeName (until source x d.0) o.0, g_name e d.1 o.1)
-    tag_mode_has c.Equals q v ms r e = let o = tag_same q v ms r before.Other cs (omega arith) in (token k.Punctuator x.span o.0, g_equals e o.1)
-    tag_mode_has c.DoubleQuote q v ms r e = value_has q v ms r quote.Double (ap quote_of e) refl
-    tag_mode_has c.SingleQuote q v ms r e = value_has q v ms r quote.Single (ap quote_of e) refl
-    tag_mode_has c.Greater q v ms r e = tag_end_has q v ms r e
-    tag_mode_has c.Slash q v ms r e =
+    tag_mode_has (c.Sign sign.Equals) q v ms r e = let o = tag_same q v ms r before.Other cs (omega arith) in (token k.Punctuator x.span o.0, g_equals e o.1)
+    tag_mode_has (c.Quote quote.Double) q v ms r e = value_has q v ms r quote.Double (ap quote_of e) refl
+    tag_mode_has (c.Quote quote.Single) q v ms r e = value_has q v ms r quote.Single (ap quote_of e) refl
+    tag_mode_has (c.Sign sign.Greater) q v ms r e = tag_end_has q v ms r e
+    tag_mode_has (c.Sign sign.Slash) q v ms r e =
         decide (is_greater (first cs)) (λ f. empty_has q v ms r cs e f (λ rest l. later ms before.Other rest (Rooted-tag q v ms r) l))
         (λ f. tag_bad q v ms r (ap (λ (y : Class). begins_nothing_in_tag y (first cs)) e ∙ ap not f))
-    tag_mode_has c.Tilde q v ms r e =
+    tag_mode_has (c.Sign sign.Tilde) q v ms r e =
         decide (is_open_brace (first cs)) (λ f. opener_has opener.Tilde (m.Tag q v) ms (ap opener_of e) f r) (λ f. tag_bad q v ms r (ap (λ (y : Class). begins_nothing_in_tag y (first cs)) e ∙ ap not f))
-    tag_mode_has c.Dollar q v ms r e =
+    tag_mode_has (c.Sign sign.Dollar) q v ms r e =
         decide (is_open_brace (first cs)) (λ f. opener_has opener.Dollar (m.Tag q v) ms (ap opener_of e) f r) (λ f. tag_bad q v ms r (ap (λ (y : Class). begins_nothing_in_tag y (first cs)) e ∙ ap not f))
     tag_mode_has y q v ms r e = tag_bad q v ms r (ap (λ (y : Class). begins_nothing_in_tag y (first cs)) e)
 
@@ -425,19 +412,19 @@ module _ (source : List ℕ) where
       child_text_has e =
           let r = run_has in_child_text cs refl in let d = later (m.Children q ∷ ms) before.Other r.0 root r.2 in (token k.ChildText (until source x r.0) d.0, h_text e r.1 d.1)
 
-      named_has : (y z : SourceChar) (cs : Chars) → class x ≡ c.Less → class y ≡ c.Slash → class z ≡ c.Letter → ((rest : Chars) → length rest ≤ length cs → Some_outcome ms before.Other rest)
+      named_has : (y z : SourceChar) (cs : Chars) → class x ≡ (c.Sign sign.Less) → class y ≡ (c.Sign sign.Slash) → class z ≡ c.Letter → ((rest : Chars) → length rest ≤ length cs → Some_outcome ms before.Other rest)
           → Some_outcome (m.Children q ∷ ms) b (x ∷ y ∷ z ∷ cs)
       named_has y z cs e f g next =
           let r = run_has (λ v w. continues_tag v) cs refl in let w = run_has (λ v w. is_space v) r.0 refl in by_rest w.0 (close_name g r.1 w.1) (omega (arith, r.2, w.2))
         where
           by_class : (v : Class) (u : SourceChar) (rest : Chars) → class u ≡ v → CloseName (z ∷ cs) (u ∷ rest) → length (u ∷ rest) ≤ length cs → Some_outcome (m.Children q ∷ ms) b (x ∷ y ∷ z ∷ cs)
-          by_class c.Greater u rest h d l = let o = next rest (omega arith) in (token k.CloseTag (through x u) o.0, h_close e f d h o.1)
-          by_class v u rest h d l = (refused fault.BadCharacter u.span.start, h_close_bad e f d (λ i. let g : v ≡ c.Greater = sym h ∙ i in absurd cc))
+          by_class (c.Sign sign.Greater) u rest h d l = let o = next rest (omega arith) in (token k.CloseTag (through x u) o.0, h_close e f d h o.1)
+          by_class v u rest h d l = (refused fault.BadCharacter u.span.start, h_close_bad e f d (λ i. let g : v ≡ (c.Sign sign.Greater) = sym h ∙ i in absurd cc))
           by_rest : (rest : Chars) → CloseName (z ∷ cs) rest → length rest ≤ length cs → Some_outcome (m.Children q ∷ ms) b (x ∷ y ∷ z ∷ cs)
           by_rest [] d l = (refused fault.Unclosed x.span.start, h_close_open e f d)
           by_rest (u ∷ rest) d l = by_class (class u) u rest refl d l
 
-      close_tag_has : (cs : Chars) → class x ≡ c.Less → first cs ≡ c.Slash → ((rest : Chars) → length rest ≤ length cs → Some_outcome ms before.Other rest) → Some_outcome (m.Children q ∷ ms) b (x ∷ cs)
+      close_tag_has : (cs : Chars) → class x ≡ (c.Sign sign.Less) → first cs ≡ (c.Sign sign.Slash) → ((rest : Chars) → length rest ≤ length cs → Some_outcome ms before.Other rest) → Some_outcome (m.Children q ∷ ms) b (x ∷ cs)
       close_tag_has [] e f next = absurd cc
       close_tag_has (y ∷ []) e f next = (refused fault.Unclosed x.span.start, h_close_end e f)
       close_tag_has (y ∷ z ∷ cs) e f next = by_class (class z) refl
@@ -446,17 +433,17 @@ module _ (source : List ℕ) where
           by_class c.Letter h = named_has y z cs e f h (λ rest l. next rest (omega arith))
           by_class v h = (refused fault.BadCharacter z.span.start, h_close_unnamed e f (λ i. let g : v ≡ c.Letter = sym h ∙ i in absurd cc))
 
-      child_less_has : (v : Class) → class x ≡ c.Less → first cs ≡ v → Inside
+      child_less_has : (v : Class) → class x ≡ (c.Sign sign.Less) → first cs ≡ v → Inside
       child_less_has c.Letter e f = tag_has (m.Children q) ms e f refl root
-      child_less_has c.Slash e f = close_tag_has cs e f (λ rest l. later ms before.Other rest (Rooted-children q ms root) l)
+      child_less_has (c.Sign sign.Slash) e f = close_tag_has cs e f (λ rest l. later ms before.Other rest (Rooted-children q ms root) l)
       child_less_has v e f = (refused fault.BadCharacter x.span.start, h_bad e (ap follows_no_less f))
 
     children_has : (y : Class) (q : ℕ) (ms : List Mode) → Rooted (m.Children q ∷ ms) → class x ≡ y → Some_outcome (m.Children q ∷ ms) b (x ∷ cs)
     children_has c.End q ms r e = absurd (not_end x.value e)
-    children_has c.Less q ms r e = child_less_has q ms r (first cs) e refl
-    children_has c.Tilde q ms r e =
+    children_has (c.Sign sign.Less) q ms r e = child_less_has q ms r (first cs) e refl
+    children_has (c.Sign sign.Tilde) q ms r e =
         decide (is_open_brace (first cs)) (λ f. opener_has opener.Tilde (m.Children q) ms (ap opener_of e) f r) (λ f. child_text_has q ms r (ap (λ (y : Class). in_child_text y (first cs)) e ∙ ap not f))
-    children_has c.Dollar q ms r e =
+    children_has (c.Sign sign.Dollar) q ms r e =
         decide (is_open_brace (first cs)) (λ f. opener_has opener.Dollar (m.Children q) ms (ap opener_of e) f r) (λ f. child_text_has q ms r (ap (λ (y : Class). in_child_text y (first cs)) e ∙ ap not f))
     children_has y q ms r e = child_text_has q ms r (ap (λ (y : Class). in_child_text y (first cs)) e)
 

@@ -7,6 +7,8 @@ use Rattle.mt_tree.specs.declared.place.Span.{Span}
 use Rattle.mt_lexer.specs.declared.character.SourceChar.{SourceChar}
 use Rattle.mt_lexer.specs.declared.character.Class.{Class}
 use Rattle.mt_lexer.specs.declared.character.Class.TheVariants as c
+use Rattle.mt_lexer.specs.declared.character.Sign.TheVariants as sign
+use Rattle.mt_lexer.specs.declared.character.Quote.TheVariants as quote
 
 abbrev pub Chars : Type 0
 Chars = List SourceChar
@@ -29,12 +31,12 @@ is_wide_space x = nat_eq x 0xA0 || nat_eq x 0xFEFF || nat_eq x 0x2028 || nat_eq 
 
 abbrev pub sign_class : ℕ → Class
 sign_class x =
-    if nat_eq x 33 then c.Exclamation else if nat_eq x 34 then c.DoubleQuote else if nat_eq x 36 then c.Dollar else if nat_eq x 37 then c.Percent
-    else if nat_eq x 38 then c.Ampersand else if nat_eq x 39 then c.SingleQuote else if nat_eq x 41 || nat_eq x 93 then c.Closing
-    else if nat_eq x 42 then c.Star else if nat_eq x 43 then c.Plus else if nat_eq x 45 then c.Minus else if nat_eq x 46 then c.Dot
-    else if nat_eq x 47 then c.Slash else if nat_eq x 58 then c.Colon else if nat_eq x 60 then c.Less else if nat_eq x 61 then c.Equals
-    else if nat_eq x 62 then c.Greater else if nat_eq x 92 then c.Backslash else if nat_eq x 123 then c.OpenBrace else if nat_eq x 124 then c.Bar
-    else if nat_eq x 125 then c.CloseBrace else if nat_eq x 126 then c.Tilde
+    if nat_eq x 33 then (c.Sign sign.Exclamation) else if nat_eq x 34 then (c.Quote quote.Double) else if nat_eq x 36 then (c.Sign sign.Dollar) else if nat_eq x 37 then (c.Sign sign.Percent)
+    else if nat_eq x 38 then (c.Sign sign.Ampersand) else if nat_eq x 39 then (c.Quote quote.Single) else if nat_eq x 41 || nat_eq x 93 then c.Closing
+    else if nat_eq x 42 then (c.Sign sign.Star) else if nat_eq x 43 then (c.Sign sign.Plus) else if nat_eq x 45 then (c.Sign sign.Minus) else if nat_eq x 46 then c.Dot
+    else if nat_eq x 47 then (c.Sign sign.Slash) else if nat_eq x 58 then c.Colon else if nat_eq x 60 then (c.Sign sign.Less) else if nat_eq x 61 then (c.Sign sign.Equals)
+    else if nat_eq x 62 then (c.Sign sign.Greater) else if nat_eq x 92 then c.Backslash else if nat_eq x 123 then c.OpenBrace else if nat_eq x 124 then (c.Sign sign.Bar)
+    else if nat_eq x 125 then c.CloseBrace else if nat_eq x 126 then (c.Sign sign.Tilde)
     else if nat_eq x 40 || nat_eq x 44 || nat_eq x 59 || nat_eq x 63 || nat_eq x 91 then c.Separator else c.Other
 
 abbrev pub ascii_class : ℕ → Class

@@ -16,8 +16,8 @@ use Rattle.mt_lexer.specs.declared.mode.Before.{Before}
 use Rattle.mt_lexer.specs.declared.mode.Before.TheVariants as before
 use Rattle.mt_lexer.specs.declared.mode.Opener.{Opener}
 use Rattle.mt_lexer.specs.declared.mode.Opener.TheVariants as opener
-use Rattle.mt_lexer.specs.declared.mode.Quote.{Quote}
-use Rattle.mt_lexer.specs.declared.mode.Quote.TheVariants as quote
+use Rattle.mt_lexer.specs.declared.character.Quote.{Quote}
+use Rattle.mt_lexer.specs.declared.character.Quote.TheVariants as quote
 use Rattle.mt_lexer.specs.declared.part.Part.{Part}
 use Rattle.mt_lexer.specs.declared.part.Part.TheVariants as p
 use Rattle.mt_lexer.specs.declared.part.OpenText.{OpenText}
@@ -58,27 +58,14 @@ module _ (source : List ℕ) (g : SourceChar) where
   code_by c.NameStart q b ms = go (m.Code q ∷ ms) b (p.Name g.span.start)
   code_by c.Zero q b ms = go (m.Code q ∷ ms) b (p.Zero g.span.start)
   code_by c.Digit q b ms = go (m.Code q ∷ ms) b (p.Number g.span.start)
-  code_by c.DoubleQuote q b ms = go (m.Code q ∷ ms) b (p.Text (record { start = g.span.start; quote = quote.Double }))
-  code_by c.SingleQuote q b ms = go (m.Code q ∷ ms) b (p.Text (record { start = g.span.start; quote = quote.Single }))
+  code_by (c.Quote u) q b ms = go (m.Code q ∷ ms) b (p.Text (record { start = g.span.start; quote = u }))
   code_by c.OpenBrace q b ms = emit k.Punctuator g.span (go (m.Code q ∷ m.Code q ∷ ms) before.Other p.Fresh)
   code_by c.CloseBrace q b ms = emit k.Punctuator g.span (closed q ms)
   code_by c.Closing q b ms = emit k.Punctuator g.span (go (m.Code q ∷ ms) before.Operand p.Fresh)
   code_by c.Dot q b ms = emit k.Punctuator g.span (go (m.Code q ∷ ms) before.Dot p.Fresh)
   code_by c.Colon q b ms = emit k.Punctuator g.span (go (m.Code q ∷ ms) before.Other p.Fresh)
   code_by c.Separator q b ms = emit k.Punctuator g.span (go (m.Code q ∷ ms) before.Other p.Fresh)
-  code_by c.Equals q b ms = go (m.Code q ∷ ms) b (p.Sign g.span sign.Equals)
-  code_by c.Exclamation q b ms = go (m.Code q ∷ ms) b (p.Sign g.span sign.Exclamation)
-  code_by c.Less q b ms = go (m.Code q ∷ ms) b (p.Sign g.span sign.Less)
-  code_by c.Greater q b ms = go (m.Code q ∷ ms) b (p.Sign g.span sign.Greater)
-  code_by c.Ampersand q b ms = go (m.Code q ∷ ms) b (p.Sign g.span sign.Ampersand)
-  code_by c.Bar q b ms = go (m.Code q ∷ ms) b (p.Sign g.span sign.Bar)
-  code_by c.Plus q b ms = go (m.Code q ∷ ms) b (p.Sign g.span sign.Plus)
-  code_by c.Minus q b ms = go (m.Code q ∷ ms) b (p.Sign g.span sign.Minus)
-  code_by c.Star q b ms = go (m.Code q ∷ ms) b (p.Sign g.span sign.Star)
-  code_by c.Slash q b ms = go (m.Code q ∷ ms) b (p.Sign g.span sign.Slash)
-  code_by c.Percent q b ms = go (m.Code q ∷ ms) b (p.Sign g.span sign.Percent)
-  code_by c.Tilde q b ms = go (m.Code q ∷ ms) b (p.Sign g.span sign.Tilde)
-  code_by c.Dollar q b ms = go (m.Code q ∷ ms) b (p.Sign g.span sign.Dollar)
+  code_by (c.Sign a) q b ms = go (m.Code q ∷ ms) b (p.Sign g.span a)
   code_by c.NameContinue q b ms = stop fault.BadCharacter g.span.start
   code_by c.Backslash q b ms = stop fault.BadCharacter g.span.start
   code_by c.Other q b ms = stop fault.BadCharacter g.span.start
@@ -93,20 +80,19 @@ module _ (source : List ℕ) (g : SourceChar) where
   tag_by c.LineFeed q v b ms = go (m.Tag q v ∷ ms) b p.Fresh
   tag_by c.CarriageReturn q v b ms = go (m.Tag q v ∷ ms) b p.Fresh
   tag_by c.Letter q v b ms = go (m.Tag q v ∷ ms) b (p.AttributeName g.span.start)
-  tag_by c.Equals q v b ms = emit k.Punctuator g.span (go (m.Tag q v ∷ ms) before.Other p.Fresh)
-  tag_by c.DoubleQuote q v b ms = go (m.Tag q v ∷ ms) b (p.Quoted g.span.start quote.Double)
-  tag_by c.SingleQuote q v b ms = go (m.Tag q v ∷ ms) b (p.Quoted g.span.start quote.Single)
-  tag_by c.Slash q v b ms = go (m.Tag q v ∷ ms) b (p.TagSlash g.span.start)
-  tag_by c.Greater q v b ms = tag_ends q v b ms
-  tag_by c.Tilde q v b ms = go (m.Tag q v ∷ ms) b (p.Sign g.span sign.Tilde)
-  tag_by c.Dollar q v b ms = go (m.Tag q v ∷ ms) b (p.Sign g.span sign.Dollar)
+  tag_by (c.Sign sign.Equals) q v b ms = emit k.Punctuator g.span (go (m.Tag q v ∷ ms) before.Other p.Fresh)
+  tag_by (c.Quote u) q v b ms = go (m.Tag q v ∷ ms) b (p.Quoted g.span.start u)
+  tag_by (c.Sign sign.Slash) q v b ms = go (m.Tag q v ∷ ms) b (p.TagSlash g.span.start)
+  tag_by (c.Sign sign.Greater) q v b ms = tag_ends q v b ms
+  tag_by (c.Sign sign.Tilde) q v b ms = go (m.Tag q v ∷ ms) b (p.Sign g.span sign.Tilde)
+  tag_by (c.Sign sign.Dollar) q v b ms = go (m.Tag q v ∷ ms) b (p.Sign g.span sign.Dollar)
   tag_by _ q v b ms = stop fault.BadCharacter g.span.start
 
   abbrev pub children_by : Class → ℕ → Before → List Mode → Next
   children_by c.End q b ms = stop fault.Unclosed q
-  children_by c.Less q b ms = go (m.Children q ∷ ms) b (p.ChildLess g.span.start)
-  children_by c.Tilde q b ms = go (m.Children q ∷ ms) b (p.ChildSign g.span.start opener.Tilde)
-  children_by c.Dollar q b ms = go (m.Children q ∷ ms) b (p.ChildSign g.span.start opener.Dollar)
+  children_by (c.Sign sign.Less) q b ms = go (m.Children q ∷ ms) b (p.ChildLess g.span.start)
+  children_by (c.Sign sign.Tilde) q b ms = go (m.Children q ∷ ms) b (p.ChildSign g.span.start opener.Tilde)
+  children_by (c.Sign sign.Dollar) q b ms = go (m.Children q ∷ ms) b (p.ChildSign g.span.start opener.Dollar)
   children_by _ q b ms = go (m.Children q ∷ ms) b (p.ChildText g.span.start)
 
   abbrev pub fresh_by : Class → Before → List Mode → Next
@@ -139,8 +125,8 @@ module _ (source : List ℕ) (g : SourceChar) where
   is_single_quote quote.Single = true
 
   abbrev pub text_by : Class → OpenText → Before → List Mode → Next
-  text_by c.DoubleQuote t b ms = quote_by t (is_double t.quote) b ms
-  text_by c.SingleQuote t b ms = quote_by t (is_single_quote t.quote) b ms
+  text_by (c.Quote quote.Double) t b ms = quote_by t (is_double t.quote) b ms
+  text_by (c.Quote quote.Single) t b ms = quote_by t (is_single_quote t.quote) b ms
   text_by c.Backslash t b ms = go ms b (p.Escape (record { text = t; backslash = g.span.start }))
   text_by c.LineFeed t b ms = stop fault.Unclosed t.start
   text_by c.CarriageReturn t b ms = stop fault.Unclosed t.start
@@ -199,7 +185,7 @@ module _ (source : List ℕ) (g : SourceChar) where
   opened s a ms = emit (opener_kind a) (upto s.start) (go (m.Code (Some s.start) ∷ ms) before.Other p.Fresh)
 
   abbrev pub equals_by : Class → Span → Before → List Mode → Next
-  equals_by c.Equals s b ms = go ms b (p.SignEquals s g.span)
+  equals_by (c.Sign sign.Equals) s b ms = go ms b (p.SignEquals s g.span)
   equals_by y s b ms = alone s y ms
 
   abbrev pub letter_by : Bool → Span → Before → List Mode → Next
@@ -207,36 +193,36 @@ module _ (source : List ℕ) (g : SourceChar) where
   letter_by false s b ms = alone s c.Letter ms
 
   abbrev pub less_by : Class → Span → Before → List Mode → Next
-  less_by c.Equals s b ms = joined s before.Other ms
+  less_by (c.Sign sign.Equals) s b ms = joined s before.Other ms
   less_by c.Letter s b ms = letter_by (allows_tag b) s b ms
   less_by y s b ms = alone s y ms
 
   abbrev pub plus_by : Class → Span → List Mode → Next
-  plus_by c.Plus s ms = joined s before.Operand ms
-  plus_by c.Equals s ms = joined s before.Other ms
+  plus_by (c.Sign sign.Plus) s ms = joined s before.Operand ms
+  plus_by (c.Sign sign.Equals) s ms = joined s before.Other ms
   plus_by y s ms = alone s y ms
 
   abbrev pub minus_by : Class → Span → List Mode → Next
-  minus_by c.Minus s ms = joined s before.Operand ms
-  minus_by c.Equals s ms = joined s before.Other ms
+  minus_by (c.Sign sign.Minus) s ms = joined s before.Operand ms
+  minus_by (c.Sign sign.Equals) s ms = joined s before.Other ms
   minus_by y s ms = alone s y ms
 
   abbrev pub assigned_by : Class → Span → List Mode → Next
-  assigned_by c.Equals s ms = joined s before.Other ms
+  assigned_by (c.Sign sign.Equals) s ms = joined s before.Other ms
   assigned_by y s ms = alone s y ms
 
   abbrev pub slash_by : Class → Span → Before → List Mode → Next
-  slash_by c.Slash s b ms = go ms b p.LineComment
-  slash_by c.Star s b ms = go ms b (p.BlockComment s.start)
-  slash_by c.Equals s b ms = joined s before.Other ms
+  slash_by (c.Sign sign.Slash) s b ms = go ms b p.LineComment
+  slash_by (c.Sign sign.Star) s b ms = go ms b (p.BlockComment s.start)
+  slash_by (c.Sign sign.Equals) s b ms = joined s before.Other ms
   slash_by y s b ms = alone s y ms
 
   abbrev pub ampersand_by : Class → Span → List Mode → Next
-  ampersand_by c.Ampersand s ms = joined s before.Other ms
+  ampersand_by (c.Sign sign.Ampersand) s ms = joined s before.Other ms
   ampersand_by y s ms = stop fault.BadCharacter s.start
 
   abbrev pub bar_by : Class → Span → List Mode → Next
-  bar_by c.Bar s ms = joined s before.Other ms
+  bar_by (c.Sign sign.Bar) s ms = joined s before.Other ms
   bar_by y s ms = stop fault.BadCharacter s.start
 
   abbrev pub opener_by : Class → Span → Opener → List Mode → Next
@@ -259,7 +245,7 @@ module _ (source : List ℕ) (g : SourceChar) where
   sign_by y s sign.Dollar b ms = opener_by y s opener.Dollar ms
 
   abbrev pub sign_equals_by : Class → Span → Span → List Mode → Next
-  sign_equals_by c.Equals s t ms = joined s before.Other ms
+  sign_equals_by (c.Sign sign.Equals) s t ms = joined s before.Other ms
   sign_equals_by y s t ms = emit k.Punctuator s (alone t y ms)
 
   abbrev pub line_by : Class → Before → List Mode → Next
@@ -268,12 +254,12 @@ module _ (source : List ℕ) (g : SourceChar) where
   line_by y b ms = go ms b p.LineComment
 
   abbrev pub block_by : Class → ℕ → Before → List Mode → Next
-  block_by c.Star s b ms = go ms b (p.BlockStar s)
+  block_by (c.Sign sign.Star) s b ms = go ms b (p.BlockStar s)
   block_by c.End s b ms = stop fault.Unclosed s
   block_by y s b ms = go ms b (p.BlockComment s)
 
   abbrev pub star_by : Class → ℕ → Before → List Mode → Next
-  star_by c.Slash s b ms = go ms b p.Fresh
+  star_by (c.Sign sign.Slash) s b ms = go ms b p.Fresh
   star_by y s b ms = block_by y s b ms
 
   abbrev pub tag_name_by : Class → ℕ → ℕ → Before → List Mode → Next
@@ -290,8 +276,8 @@ module _ (source : List ℕ) (g : SourceChar) where
   value_quote_by s u false b ms = go ms b (p.Quoted s u)
 
   abbrev pub value_by : Class → ℕ → Quote → Before → List Mode → Next
-  value_by c.DoubleQuote s u b ms = value_quote_by s u (is_double u) b ms
-  value_by c.SingleQuote s u b ms = value_quote_by s u (is_single_quote u) b ms
+  value_by (c.Quote quote.Double) s u b ms = value_quote_by s u (is_double u) b ms
+  value_by (c.Quote quote.Single) s u b ms = value_quote_by s u (is_single_quote u) b ms
   value_by c.End s u b ms = tag_unclosed ms
   value_by y s u b ms = go ms b (p.Quoted s u)
 
@@ -300,13 +286,13 @@ module _ (source : List ℕ) (g : SourceChar) where
   popped kind span (z ∷ ms) = emit kind span (go ms before.Other p.Fresh)
 
   abbrev pub tag_slash_by : Class → ℕ → List Mode → Next
-  tag_slash_by c.Greater s ms = popped k.TagEnd (upto s) ms
+  tag_slash_by (c.Sign sign.Greater) s ms = popped k.TagEnd (upto s) ms
   tag_slash_by y s ms = stop fault.BadCharacter s
 
   abbrev pub child_text_by : Class → ℕ → Before → List Mode → Next
-  child_text_by c.Tilde s b ms = go ms b (p.ChildTextSign s g.span.start opener.Tilde)
-  child_text_by c.Dollar s b ms = go ms b (p.ChildTextSign s g.span.start opener.Dollar)
-  child_text_by c.Less s b ms = emit k.ChildText (here s) (fresh_by c.Less before.Other ms)
+  child_text_by (c.Sign sign.Tilde) s b ms = go ms b (p.ChildTextSign s g.span.start opener.Tilde)
+  child_text_by (c.Sign sign.Dollar) s b ms = go ms b (p.ChildTextSign s g.span.start opener.Dollar)
+  child_text_by (c.Sign sign.Less) s b ms = emit k.ChildText (here s) (fresh_by (c.Sign sign.Less) before.Other ms)
   child_text_by c.End s b ms = emit k.ChildText (here s) (fresh_by c.End before.Other ms)
   child_text_by y s b ms = go ms b (p.ChildText s)
 
@@ -321,7 +307,7 @@ module _ (source : List ℕ) (g : SourceChar) where
 
   abbrev pub child_less_by : Class → ℕ → Before → List Mode → Next
   child_less_by c.Letter s b ms = go ms b (p.TagName s g.span.start)
-  child_less_by c.Slash s b ms = go ms b (p.CloseStart s)
+  child_less_by (c.Sign sign.Slash) s b ms = go ms b (p.CloseStart s)
   child_less_by y s b ms = stop fault.BadCharacter s
 
   abbrev pub close_start_by : Class → ℕ → Before → List Mode → Next
@@ -333,7 +319,7 @@ module _ (source : List ℕ) (g : SourceChar) where
   close_space_by c.White s b ms = go ms b (p.CloseSpace s)
   close_space_by c.LineFeed s b ms = go ms b (p.CloseSpace s)
   close_space_by c.CarriageReturn s b ms = go ms b (p.CloseSpace s)
-  close_space_by c.Greater s b ms = popped k.CloseTag (upto s) ms
+  close_space_by (c.Sign sign.Greater) s b ms = popped k.CloseTag (upto s) ms
   close_space_by c.End s b ms = stop fault.Unclosed s
   close_space_by y s b ms = stop fault.BadCharacter g.span.start
 

@@ -10,8 +10,8 @@ use Rattle.mt_lexer.specs.declared.mode.Before.{Before}
 use Rattle.mt_lexer.specs.declared.mode.Before.TheVariants as before
 use Rattle.mt_lexer.specs.declared.mode.Opener.{Opener}
 use Rattle.mt_lexer.specs.declared.mode.Opener.TheVariants as opener
-use Rattle.mt_lexer.specs.declared.mode.Quote.{Quote}
-use Rattle.mt_lexer.specs.declared.mode.Quote.TheVariants as quote
+use Rattle.mt_lexer.specs.declared.character.Quote.{Quote}
+use Rattle.mt_lexer.specs.declared.character.Quote.TheVariants as quote
 
 abbrev pub is_space : Class → Bool
 is_space c.White = true
@@ -39,7 +39,7 @@ continues_name c.NameContinue = true
 continues_name y = starts_name y || is_digit y
 
 abbrev pub continues_tag : Class → Bool
-continues_tag c.Minus = true
+continues_tag (c.Sign sign.Minus) = true
 continues_tag y = is_letter y || is_digit y
 
 abbrev pub continues_attribute : Class → Bool
@@ -58,12 +58,12 @@ in_line _ = true
 
 -- a block comment goes on before `*/`
 abbrev pub is_slash : Class → Bool
-is_slash c.Slash = true
+is_slash (c.Sign sign.Slash) = true
 is_slash _ = false
 
 abbrev pub in_block : Class → Class → Bool
 in_block c.End z = false
-in_block c.Star z = not (is_slash z)
+in_block (c.Sign sign.Star) z = not (is_slash z)
 in_block _ z = true
 
 abbrev pub is_open_brace : Class → Bool
@@ -73,14 +73,14 @@ is_open_brace _ = false
 -- a text among children goes on before `<`, `~{` and `${`
 abbrev pub in_child_text : Class → Class → Bool
 in_child_text c.End z = false
-in_child_text c.Less z = false
-in_child_text c.Tilde z = not (is_open_brace z)
-in_child_text c.Dollar z = not (is_open_brace z)
+in_child_text (c.Sign sign.Less) z = false
+in_child_text (c.Sign sign.Tilde) z = not (is_open_brace z)
+in_child_text (c.Sign sign.Dollar) z = not (is_open_brace z)
 in_child_text _ z = true
 
 abbrev pub opener_of : Class → Option Opener
-opener_of c.Tilde = Some opener.Tilde
-opener_of c.Dollar = Some opener.Dollar
+opener_of (c.Sign sign.Tilde) = Some opener.Tilde
+opener_of (c.Sign sign.Dollar) = Some opener.Dollar
 opener_of _ = None
 
 abbrev pub opener_kind : Opener → Kind
@@ -88,19 +88,18 @@ opener_kind opener.Tilde = k.TildeOpen
 opener_kind opener.Dollar = k.DollarOpen
 
 abbrev pub quote_of : Class → Option Quote
-quote_of c.DoubleQuote = Some quote.Double
-quote_of c.SingleQuote = Some quote.Single
+quote_of (c.Quote u) = Some u
 quote_of _ = None
 
 abbrev pub closes : Quote → Class → Bool
-closes quote.Double c.DoubleQuote = true
-closes quote.Single c.SingleQuote = true
+closes quote.Double (c.Quote quote.Double) = true
+closes quote.Single (c.Quote quote.Single) = true
 closes _ _ = false
 
 -- an ordinary character of a text of code
 abbrev pub is_plain : Quote → Class → Bool
-is_plain quote.Double c.DoubleQuote = false
-is_plain quote.Single c.SingleQuote = false
+is_plain quote.Double (c.Quote quote.Double) = false
+is_plain quote.Single (c.Quote quote.Single) = false
 is_plain _ c.Backslash = false
 is_plain _ c.LineFeed = false
 is_plain _ c.CarriageReturn = false
@@ -115,26 +114,14 @@ ends_line c.End = true
 ends_line _ = false
 
 abbrev pub in_value : Quote → Class → Bool
-in_value quote.Double c.DoubleQuote = false
-in_value quote.Single c.SingleQuote = false
+in_value quote.Double (c.Quote quote.Double) = false
+in_value quote.Single (c.Quote quote.Single) = false
 in_value _ c.End = false
 in_value _ _ = true
 
 -- the first characters of signs that others may join
 abbrev pub sign_of : Class → Option Sign
-sign_of c.Equals = Some sign.Equals
-sign_of c.Exclamation = Some sign.Exclamation
-sign_of c.Less = Some sign.Less
-sign_of c.Greater = Some sign.Greater
-sign_of c.Ampersand = Some sign.Ampersand
-sign_of c.Bar = Some sign.Bar
-sign_of c.Plus = Some sign.Plus
-sign_of c.Minus = Some sign.Minus
-sign_of c.Star = Some sign.Star
-sign_of c.Slash = Some sign.Slash
-sign_of c.Percent = Some sign.Percent
-sign_of c.Tilde = Some sign.Tilde
-sign_of c.Dollar = Some sign.Dollar
+sign_of (c.Sign a) = Some a
 sign_of _ = None
 
 -- the signs that stand alone whatever follows
@@ -151,7 +138,7 @@ before_single c.Dot = before.Dot
 before_single _ = before.Other
 
 abbrev pub is_equals : Class → Bool
-is_equals c.Equals = true
+is_equals (c.Sign sign.Equals) = true
 is_equals _ = false
 
 -- `===` and `!==`
@@ -162,23 +149,23 @@ is_three _ y z = false
 
 -- `<=` `>=` `&&` `||` `++` `--` `+=` `-=` `*=` `/=` `%=`
 abbrev pub is_two : Sign → Class → Bool
-is_two sign.Less c.Equals = true
-is_two sign.Greater c.Equals = true
-is_two sign.Ampersand c.Ampersand = true
-is_two sign.Bar c.Bar = true
-is_two sign.Plus c.Plus = true
-is_two sign.Plus c.Equals = true
-is_two sign.Minus c.Minus = true
-is_two sign.Minus c.Equals = true
-is_two sign.Star c.Equals = true
-is_two sign.Slash c.Equals = true
-is_two sign.Percent c.Equals = true
+is_two sign.Less (c.Sign sign.Equals) = true
+is_two sign.Greater (c.Sign sign.Equals) = true
+is_two sign.Ampersand (c.Sign sign.Ampersand) = true
+is_two sign.Bar (c.Sign sign.Bar) = true
+is_two sign.Plus (c.Sign sign.Plus) = true
+is_two sign.Plus (c.Sign sign.Equals) = true
+is_two sign.Minus (c.Sign sign.Minus) = true
+is_two sign.Minus (c.Sign sign.Equals) = true
+is_two sign.Star (c.Sign sign.Equals) = true
+is_two sign.Slash (c.Sign sign.Equals) = true
+is_two sign.Percent (c.Sign sign.Equals) = true
 is_two _ _ = false
 
 -- `++` and `--` may end an operand
 abbrev pub before_two : Sign → Class → Before
-before_two sign.Plus c.Plus = before.Operand
-before_two sign.Minus c.Minus = before.Operand
+before_two sign.Plus (c.Sign sign.Plus) = before.Operand
+before_two sign.Minus (c.Sign sign.Minus) = before.Operand
 before_two _ _ = before.Other
 
 -- a `<` begins a tag before a letter, unless it compares what stands before it
@@ -187,8 +174,8 @@ allows_tag before.Operand = false
 allows_tag _ = true
 
 abbrev pub begins_comment : Class → Bool
-begins_comment c.Slash = true
-begins_comment c.Star = true
+begins_comment (c.Sign sign.Slash) = true
+begins_comment (c.Sign sign.Star) = true
 begins_comment _ = false
 
 -- a sign of one character, before characters of these classes
@@ -217,7 +204,7 @@ begins_nothing _ = false
 
 -- what begins nothing in a tag, before a character of the class z
 abbrev pub is_greater : Class → Bool
-is_greater c.Greater = true
+is_greater (c.Sign sign.Greater) = true
 is_greater _ = false
 
 abbrev pub begins_nothing_in_tag : Class → Class → Bool
@@ -226,17 +213,17 @@ begins_nothing_in_tag c.White z = false
 begins_nothing_in_tag c.LineFeed z = false
 begins_nothing_in_tag c.CarriageReturn z = false
 begins_nothing_in_tag c.Letter z = false
-begins_nothing_in_tag c.Equals z = false
-begins_nothing_in_tag c.DoubleQuote z = false
-begins_nothing_in_tag c.SingleQuote z = false
-begins_nothing_in_tag c.Greater z = false
-begins_nothing_in_tag c.Slash z = not (is_greater z)
-begins_nothing_in_tag c.Tilde z = not (is_open_brace z)
-begins_nothing_in_tag c.Dollar z = not (is_open_brace z)
+begins_nothing_in_tag (c.Sign sign.Equals) z = false
+begins_nothing_in_tag (c.Quote quote.Double) z = false
+begins_nothing_in_tag (c.Quote quote.Single) z = false
+begins_nothing_in_tag (c.Sign sign.Greater) z = false
+begins_nothing_in_tag (c.Sign sign.Slash) z = not (is_greater z)
+begins_nothing_in_tag (c.Sign sign.Tilde) z = not (is_open_brace z)
+begins_nothing_in_tag (c.Sign sign.Dollar) z = not (is_open_brace z)
 begins_nothing_in_tag _ z = true
 
 -- what follows a `<` among children that begins nothing
 abbrev pub follows_no_less : Class → Bool
 follows_no_less c.Letter = false
-follows_no_less c.Slash = false
+follows_no_less (c.Sign sign.Slash) = false
 follows_no_less _ = true

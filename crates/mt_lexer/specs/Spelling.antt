@@ -5,6 +5,7 @@ use Rattle.mt_lexer.specs.declared.character.SourceChar.{SourceChar}
 use Rattle.mt_lexer.specs.declared.character.Class.{Class}
 use Rattle.mt_lexer.specs.declared.character.Class.TheVariants as c
 use Rattle.mt_lexer.specs.declared.character.Sign.{Sign}
+use Rattle.mt_lexer.specs.declared.character.Sign.TheVariants as sign
 use Rattle.mt_lexer.specs.declared.token.Kind.{Kind}
 use Rattle.mt_lexer.specs.declared.token.Kind.TheVariants as k
 use Rattle.mt_lexer.specs.declared.mode.Fault.{Fault}
@@ -14,7 +15,7 @@ use Rattle.mt_lexer.specs.declared.mode.Mode.TheVariants as m
 use Rattle.mt_lexer.specs.declared.mode.Before.{Before}
 use Rattle.mt_lexer.specs.declared.mode.Before.TheVariants as before
 use Rattle.mt_lexer.specs.declared.mode.Opener.{Opener}
-use Rattle.mt_lexer.specs.declared.mode.Quote.{Quote}
+use Rattle.mt_lexer.specs.declared.character.Quote.{Quote}
 use Rattle.mt_lexer.specs.Character.{Chars, class, first, second, place, between, until, through, text_of}
 use Rattle.mt_lexer.specs.Sign.{is_space, is_digit, starts_name, continues_name, continues_tag, continues_attribute, spoils_number, in_line, in_block, in_child_text, opener_of, opener_kind, quote_of, closes, is_plain, ends_line, in_value, sign_of, is_single, before_single, is_three, is_two, before_two, allows_tag, is_one, is_stray, begins_nothing, begins_nothing_in_tag, follows_no_less}
 use Rattle.mt_lexer.specs.Word.{void_tags, is_among, word_kind, before_word, is_number}
@@ -68,11 +69,11 @@ pub data Lexes (source : List ℕ) : List Mode → Before → Chars → Outcome 
   l_done : {b : Before} {ms : List Mode} → Lexes source (m.Code None ∷ ms) b [] finished
   l_open : {q : ℕ} {b : Before} {ms : List Mode} → Lexes source (m.Code (Some q) ∷ ms) b [] (refused fault.Unclosed q)
   l_space : {q : Option ℕ} {b : Before} {ms : List Mode} {x : SourceChar} {cs : Chars} {o : Outcome} → is_space (class x) ≡ true → Lexes source (m.Code q ∷ ms) b cs o → Lexes source (m.Code q ∷ ms) b (x ∷ cs) o
-  l_line_comment : {q : Option ℕ} {b : Before} {ms : List Mode} {x y : SourceChar} {cs rest : Chars} {o : Outcome} → class x ≡ c.Slash → class y ≡ c.Slash → RunOf in_line cs rest
+  l_line_comment : {q : Option ℕ} {b : Before} {ms : List Mode} {x y : SourceChar} {cs rest : Chars} {o : Outcome} → class x ≡ (c.Sign sign.Slash) → class y ≡ (c.Sign sign.Slash) → RunOf in_line cs rest
       → Lexes source (m.Code q ∷ ms) b rest o → Lexes source (m.Code q ∷ ms) b (x ∷ y ∷ cs) o
-  l_block_comment : {q : Option ℕ} {b : Before} {ms : List Mode} {x y v w : SourceChar} {cs rest : Chars} {o : Outcome} → class x ≡ c.Slash → class y ≡ c.Star → Run in_block cs (v ∷ w ∷ rest)
-      → class v ≡ c.Star → class w ≡ c.Slash → Lexes source (m.Code q ∷ ms) b rest o → Lexes source (m.Code q ∷ ms) b (x ∷ y ∷ cs) o
-  l_block_open : {q : Option ℕ} {b : Before} {ms : List Mode} {x y : SourceChar} {cs : Chars} → class x ≡ c.Slash → class y ≡ c.Star → Run in_block cs []
+  l_block_comment : {q : Option ℕ} {b : Before} {ms : List Mode} {x y v w : SourceChar} {cs rest : Chars} {o : Outcome} → class x ≡ (c.Sign sign.Slash) → class y ≡ (c.Sign sign.Star) → Run in_block cs (v ∷ w ∷ rest)
+      → class v ≡ (c.Sign sign.Star) → class w ≡ (c.Sign sign.Slash) → Lexes source (m.Code q ∷ ms) b rest o → Lexes source (m.Code q ∷ ms) b (x ∷ y ∷ cs) o
+  l_block_open : {q : Option ℕ} {b : Before} {ms : List Mode} {x y : SourceChar} {cs : Chars} → class x ≡ (c.Sign sign.Slash) → class y ≡ (c.Sign sign.Star) → Run in_block cs []
       → Lexes source (m.Code q ∷ ms) b (x ∷ y ∷ cs) (refused fault.Unclosed x.span.start)
   l_word : {q : Option ℕ} {b : Before} {ms : List Mode} {x : SourceChar} {cs rest : Chars} {o : Outcome} → starts_name (class x) ≡ true → RunOf continues_name cs rest
       → Lexes source (m.Code q ∷ ms) (before_word b (text_of source (until source x rest))) rest o
@@ -109,37 +110,37 @@ pub data Lexes (source : List ℕ) : List Mode → Before → Chars → Outcome 
   -- every mode
   l_opener : {b : Before} {z : Mode} {ms : List Mode} {x y : SourceChar} {cs : Chars} {o : Outcome} {a : Opener} → opener_of (class x) ≡ Some a → class y ≡ c.OpenBrace
       → Lexes source (m.Code (Some x.span.start) ∷ z ∷ ms) before.Other cs o → Lexes source (z ∷ ms) b (x ∷ y ∷ cs) (token (opener_kind a) (through x y) o)
-  l_tag_open : {b : Before} {z : Mode} {ms : List Mode} {x y : SourceChar} {cs rest : Chars} {o : Outcome} → class x ≡ c.Less → class y ≡ c.Letter → opens_tag z b ≡ true → RunOf continues_tag cs rest
+  l_tag_open : {b : Before} {z : Mode} {ms : List Mode} {x y : SourceChar} {cs rest : Chars} {o : Outcome} → class x ≡ (c.Sign sign.Less) → class y ≡ c.Letter → opens_tag z b ≡ true → RunOf continues_tag cs rest
       → Lexes source (m.Tag x.span.start (is_among void_tags (text_of source (until source y rest))) ∷ z ∷ ms) before.Other rest o → Lexes source (z ∷ ms) b (x ∷ y ∷ cs) (token k.TagOpen (until source x rest) o)
   -- a tag
   g_end : {q : ℕ} {v : Bool} {b : Before} {ms : List Mode} → Lexes source (m.Tag q v ∷ ms) b [] (refused fault.Unclosed q)
   g_space : {q : ℕ} {v : Bool} {b : Before} {ms : List Mode} {x : SourceChar} {cs : Chars} {o : Outcome} → is_space (class x) ≡ true → Lexes source (m.Tag q v ∷ ms) b cs o → Lexes source (m.Tag q v ∷ ms) b (x ∷ cs) o
   g_name : {q : ℕ} {v : Bool} {b : Before} {ms : List Mode} {x : SourceChar} {cs rest : Chars} {o : Outcome} → class x ≡ c.Letter → RunOf continues_attribute cs rest
       → Lexes source (m.Tag q v ∷ ms) before.Other rest o → Lexes source (m.Tag q v ∷ ms) b (x ∷ cs) (token k.AttributeName (until source x rest) o)
-  g_equals : {q : ℕ} {v : Bool} {b : Before} {ms : List Mode} {x : SourceChar} {cs : Chars} {o : Outcome} → class x ≡ c.Equals → Lexes source (m.Tag q v ∷ ms) before.Other cs o
+  g_equals : {q : ℕ} {v : Bool} {b : Before} {ms : List Mode} {x : SourceChar} {cs : Chars} {o : Outcome} → class x ≡ (c.Sign sign.Equals) → Lexes source (m.Tag q v ∷ ms) before.Other cs o
       → Lexes source (m.Tag q v ∷ ms) b (x ∷ cs) (token k.Punctuator x.span o)
   g_quoted : {q : ℕ} {v : Bool} {b : Before} {ms : List Mode} {x y : SourceChar} {cs rest : Chars} {o : Outcome} {u : Quote} → quote_of (class x) ≡ Some u → RunOf (in_value u) cs (y ∷ rest)
       → Lexes source (m.Tag q v ∷ ms) before.Other rest o → Lexes source (m.Tag q v ∷ ms) b (x ∷ cs) (token k.Quoted (through x y) o)
   g_quoted_open : {q : ℕ} {v : Bool} {b : Before} {ms : List Mode} {x : SourceChar} {cs : Chars} {u : Quote} → quote_of (class x) ≡ Some u → RunOf (in_value u) cs []
       → Lexes source (m.Tag q v ∷ ms) b (x ∷ cs) (refused fault.Unclosed q)
-  g_empty : {q : ℕ} {v : Bool} {b : Before} {ms : List Mode} {x y : SourceChar} {cs : Chars} {o : Outcome} → class x ≡ c.Slash → class y ≡ c.Greater → Lexes source ms before.Other cs o
+  g_empty : {q : ℕ} {v : Bool} {b : Before} {ms : List Mode} {x y : SourceChar} {cs : Chars} {o : Outcome} → class x ≡ (c.Sign sign.Slash) → class y ≡ (c.Sign sign.Greater) → Lexes source ms before.Other cs o
       → Lexes source (m.Tag q v ∷ ms) b (x ∷ y ∷ cs) (token k.TagEnd (through x y) o)
-  g_void : {q : ℕ} {b : Before} {ms : List Mode} {x : SourceChar} {cs : Chars} {o : Outcome} → class x ≡ c.Greater → Lexes source ms before.Other cs o
+  g_void : {q : ℕ} {b : Before} {ms : List Mode} {x : SourceChar} {cs : Chars} {o : Outcome} → class x ≡ (c.Sign sign.Greater) → Lexes source ms before.Other cs o
       → Lexes source (m.Tag q true ∷ ms) b (x ∷ cs) (token k.TagEnd x.span o)
-  g_children : {q : ℕ} {b : Before} {ms : List Mode} {x : SourceChar} {cs : Chars} {o : Outcome} → class x ≡ c.Greater → Lexes source (m.Children q ∷ ms) before.Other cs o
+  g_children : {q : ℕ} {b : Before} {ms : List Mode} {x : SourceChar} {cs : Chars} {o : Outcome} → class x ≡ (c.Sign sign.Greater) → Lexes source (m.Children q ∷ ms) before.Other cs o
       → Lexes source (m.Tag q false ∷ ms) b (x ∷ cs) (token k.TagEnd x.span o)
   g_bad : {q : ℕ} {v : Bool} {b : Before} {ms : List Mode} {x : SourceChar} {cs : Chars} → begins_nothing_in_tag (class x) (first cs) ≡ true → Lexes source (m.Tag q v ∷ ms) b (x ∷ cs) (refused fault.BadCharacter x.span.start)
   -- children
   h_end : {q : ℕ} {b : Before} {ms : List Mode} → Lexes source (m.Children q ∷ ms) b [] (refused fault.Unclosed q)
   h_text : {q : ℕ} {b : Before} {ms : List Mode} {x : SourceChar} {cs rest : Chars} {o : Outcome} → in_child_text (class x) (first cs) ≡ true → Run in_child_text cs rest
       → Lexes source (m.Children q ∷ ms) before.Other rest o → Lexes source (m.Children q ∷ ms) b (x ∷ cs) (token k.ChildText (until source x rest) o)
-  h_close : {q : ℕ} {b : Before} {ms : List Mode} {x y z : SourceChar} {cs rest : Chars} {o : Outcome} → class x ≡ c.Less → class y ≡ c.Slash → CloseName cs (z ∷ rest) → class z ≡ c.Greater
+  h_close : {q : ℕ} {b : Before} {ms : List Mode} {x y z : SourceChar} {cs rest : Chars} {o : Outcome} → class x ≡ (c.Sign sign.Less) → class y ≡ (c.Sign sign.Slash) → CloseName cs (z ∷ rest) → class z ≡ (c.Sign sign.Greater)
       → Lexes source ms before.Other rest o → Lexes source (m.Children q ∷ ms) b (x ∷ y ∷ cs) (token k.CloseTag (through x z) o)
-  h_close_bad : {q : ℕ} {b : Before} {ms : List Mode} {x y z : SourceChar} {cs rest : Chars} → class x ≡ c.Less → class y ≡ c.Slash → CloseName cs (z ∷ rest) → class z ≢ c.Greater
+  h_close_bad : {q : ℕ} {b : Before} {ms : List Mode} {x y z : SourceChar} {cs rest : Chars} → class x ≡ (c.Sign sign.Less) → class y ≡ (c.Sign sign.Slash) → CloseName cs (z ∷ rest) → class z ≢ (c.Sign sign.Greater)
       → Lexes source (m.Children q ∷ ms) b (x ∷ y ∷ cs) (refused fault.BadCharacter z.span.start)
-  h_close_unnamed : {q : ℕ} {b : Before} {ms : List Mode} {x y z : SourceChar} {cs : Chars} → class x ≡ c.Less → class y ≡ c.Slash → class z ≢ c.Letter
+  h_close_unnamed : {q : ℕ} {b : Before} {ms : List Mode} {x y z : SourceChar} {cs : Chars} → class x ≡ (c.Sign sign.Less) → class y ≡ (c.Sign sign.Slash) → class z ≢ c.Letter
       → Lexes source (m.Children q ∷ ms) b (x ∷ y ∷ z ∷ cs) (refused fault.BadCharacter z.span.start)
-  h_close_open : {q : ℕ} {b : Before} {ms : List Mode} {x y : SourceChar} {cs : Chars} → class x ≡ c.Less → class y ≡ c.Slash → CloseName cs []
+  h_close_open : {q : ℕ} {b : Before} {ms : List Mode} {x y : SourceChar} {cs : Chars} → class x ≡ (c.Sign sign.Less) → class y ≡ (c.Sign sign.Slash) → CloseName cs []
       → Lexes source (m.Children q ∷ ms) b (x ∷ y ∷ cs) (refused fault.Unclosed x.span.start)
-  h_close_end : {q : ℕ} {b : Before} {ms : List Mode} {x y : SourceChar} → class x ≡ c.Less → class y ≡ c.Slash → Lexes source (m.Children q ∷ ms) b (x ∷ y ∷ []) (refused fault.Unclosed x.span.start)
-  h_bad : {q : ℕ} {b : Before} {ms : List Mode} {x : SourceChar} {cs : Chars} → class x ≡ c.Less → follows_no_less (first cs) ≡ true → Lexes source (m.Children q ∷ ms) b (x ∷ cs) (refused fault.BadCharacter x.span.start)
+  h_close_end : {q : ℕ} {b : Before} {ms : List Mode} {x y : SourceChar} → class x ≡ (c.Sign sign.Less) → class y ≡ (c.Sign sign.Slash) → Lexes source (m.Children q ∷ ms) b (x ∷ y ∷ []) (refused fault.Unclosed x.span.start)
+  h_bad : {q : ℕ} {b : Before} {ms : List Mode} {x : SourceChar} {cs : Chars} → class x ≡ (c.Sign sign.Less) → follows_no_less (first cs) ≡ true → Lexes source (m.Children q ∷ ms) b (x ∷ cs) (refused fault.BadCharacter x.span.start)

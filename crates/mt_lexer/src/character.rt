@@ -9,6 +9,31 @@ pub struct SourceChar {
     pub span: Span,
 }
 
+/// A sign of code that more characters may join.
+#[derive(Clone, Copy)]
+pub enum Sign {
+    Equals,
+    Exclamation,
+    Less,
+    Greater,
+    Ampersand,
+    Bar,
+    Plus,
+    Minus,
+    Star,
+    Slash,
+    Percent,
+    Tilde,
+    Dollar,
+}
+
+/// The quotes round a text or a value.
+#[derive(Clone, Copy)]
+pub enum Quote {
+    Double,
+    Single,
+}
+
 /// What a character is to the lexer. The end of the source is one too.
 #[derive(Clone, Copy)]
 pub enum Class {
@@ -26,20 +51,10 @@ pub enum Class {
     Zero,
     /// A digit from 1 to 9.
     Digit,
-    DoubleQuote,
-    SingleQuote,
+    Quote(Quote),
     Backslash,
-    Equals,
-    Exclamation,
-    Less,
-    Greater,
-    Ampersand,
-    Bar,
-    Plus,
-    Minus,
-    Star,
-    Slash,
-    Percent,
+    /// A sign that more characters may join, or that may open code.
+    Sign(Sign),
     OpenBrace,
     CloseBrace,
     /// `)` or `]`.
@@ -48,26 +63,6 @@ pub enum Class {
     Colon,
     /// `(`, `[`, `;`, `,` or `?`.
     Separator,
-    Tilde,
-    Dollar,
     /// A character that begins nothing in code.
     Other,
-}
-
-/// A sign of code that more characters may join.
-#[derive(Clone, Copy)]
-pub enum Sign {
-    Equals,
-    Exclamation,
-    Less,
-    Greater,
-    Ampersand,
-    Bar,
-    Plus,
-    Minus,
-    Star,
-    Slash,
-    Percent,
-    Tilde,
-    Dollar,
 }

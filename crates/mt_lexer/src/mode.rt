@@ -20,13 +20,6 @@ pub enum Before {
     Other,
 }
 
-/// The quotes round a text or a value.
-#[derive(Clone, Copy)]
-pub enum Quote {
-    Double,
-    Single,
-}
-
 /// The sign before a brace that opens code.
 #[derive(Clone, Copy)]
 pub enum Opener {

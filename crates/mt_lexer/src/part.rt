@@ -1,7 +1,7 @@
 //! What was begun and isn't a token yet.
 
-use crate::character::Sign;
-use crate::mode::{Opener, Quote};
+use crate::character::{Quote, Sign};
+use crate::mode::Opener;
 use mt_tree::Span;
 
 /// A text of code that is open.
