@@ -35,6 +35,7 @@ module _ (source : List ℕ) (e : OpenEscape) (ms : List Mode) (b : Before) wher
       chosen : (t : Bool) → follows (lexed source cs) (if t then go ms b (p.Text e.text) else stop fault.BadEscape e.backslash) ≡ (if t then lexed source cs ms b (p.Text e.text) else bad)
       chosen true = refl
       chosen false = refl
+
       by_hex : (t : Bool) (n : ℕ) → ((m : ℕ) → lexed source cs ms b (p.LowUnit e m (hex_more v x.value)) ≡ after_low (digits (suc m) (hex_more v x.value) cs))
           → follows (lexed source cs) (if t then low_more source x e n (hex_more v x.value) b ms else stop fault.BadEscape e.backslash)
           ≡ after_low (if t then digits n (hex_more v x.value) cs else None)

@@ -3,3 +3,4 @@ pub mod Escapes
 pub mod Tables
 pub mod Complete
 pub mod Total
+pub mod Marks

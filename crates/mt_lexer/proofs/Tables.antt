@@ -58,14 +58,10 @@ module _ (source : List ℕ) (x : SourceChar) where
   code_nothing _ q b ms h = absurd cc
 
   pub number_stays : (y : Class) (s : ℕ) (b : Before) (ms : List Mode) → is_digit y ≡ true → step_by source x (p.Number s) y b ms ≡ go ms b (p.Number s)
-  number_stays c.Zero s b ms h = refl
-  number_stays c.Digit s b ms h = refl
-  number_stays _ s b ms h = absurd cc
+  number_stays y s b ms h = ap (λ (v : Bool). if v then go ms b (p.Number s) else number_by source x y s ms) h
 
   pub number_ends : (y : Class) (s : ℕ) (b : Before) (ms : List Mode) → is_digit y ≡ false → step_by source x (p.Number s) y b ms ≡ number_by source x y s ms
-  number_ends c.Zero s b ms h = absurd cc
-  number_ends c.Digit s b ms h = absurd cc
-  number_ends _ s b ms h = refl
+  number_ends y s b ms h = ap (λ (v : Bool). if v then go ms b (p.Number s) else number_by source x y s ms) h
 
   pub text_stays : (y : Class) (s : ℕ) (u : Quote) (b : Before) (ms : List Mode) → is_plain u y ≡ true → text_by source x y (record { start = s; quote = u }) b ms ≡ go ms b (p.Text (record { start = s; quote = u }))
   text_stays (c.Quote quote.Double) s quote.Double b ms h = absurd cc

@@ -191,6 +191,7 @@ module _ (source : List ℕ) where
         is_open : (y : Class) → is_open_brace y ≡ true → y ≡ c.OpenBrace
         is_open c.OpenBrace h = refl
         is_open _ h = absurd cc
+
         by_rest : (cs : Chars) → is_open_brace (first cs) ≡ true → ((rest : Chars) → length rest ≤ length cs → Some_outcome (m.Code (Some x.span.start) ∷ z ∷ ms) before.Other rest) → Some_outcome (z ∷ ms) b (x ∷ cs)
         by_rest [] h next = absurd cc
         by_rest (y ∷ rest) h next = let d = next rest (omega arith) in (token (opener_kind a) (through x y) d.0, l_opener e (is_open (class y) h) d.1)
@@ -260,6 +261,7 @@ module _ (source : List ℕ) where
               slash (c.Sign sign.Slash) h = refl
               slash _ h = absurd cc
           by_class _ w rest g h r l = absurd cc
+
           by_rest : (rest : Chars) → Run in_block body rest → length rest ≤ length body → Some_outcome (m.Code q ∷ ms) b (x ∷ y ∷ body)
           by_rest [] r l = (refused fault.Unclosed x.span.start, l_block_open e f r)
           by_rest (w ∷ rest) r l = by_class (class w) w rest refl (run_stops r) r l
@@ -420,6 +422,7 @@ module _ (source : List ℕ) where
           by_class : (v : Class) (u : SourceChar) (rest : Chars) → class u ≡ v → CloseName (z ∷ cs) (u ∷ rest) → length (u ∷ rest) ≤ length cs → Some_outcome (m.Children q ∷ ms) b (x ∷ y ∷ z ∷ cs)
           by_class (c.Sign sign.Greater) u rest h d l = let o = next rest (omega arith) in (token k.CloseTag (through x u) o.0, h_close e f d h o.1)
           by_class v u rest h d l = (refused fault.BadCharacter u.span.start, h_close_bad e f d (λ i. let g : v ≡ (c.Sign sign.Greater) = sym h ∙ i in absurd cc))
+
           by_rest : (rest : Chars) → CloseName (z ∷ cs) rest → length rest ≤ length cs → Some_outcome (m.Children q ∷ ms) b (x ∷ y ∷ z ∷ cs)
           by_rest [] d l = (refused fault.Unclosed x.span.start, h_close_open e f d)
           by_rest (u ∷ rest) d l = by_class (class u) u rest refl d l

@@ -4,3 +4,5 @@ pub mod Word
 pub mod Escape
 pub mod Spelling
 pub mod Machine
+pub mod Tokens
+pub mod Steps

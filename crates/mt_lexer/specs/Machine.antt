@@ -23,7 +23,7 @@ use Rattle.mt_lexer.specs.declared.part.Part.TheVariants as p
 use Rattle.mt_lexer.specs.declared.part.OpenText.{OpenText}
 use Rattle.mt_lexer.specs.declared.part.OpenEscape.{OpenEscape}
 use Rattle.mt_lexer.specs.Character.{Chars, class, between, text_of}
-use Rattle.mt_lexer.specs.Sign.{continues_name, continues_tag, continues_attribute, spoils_number, opener_kind, before_single, allows_tag}
+use Rattle.mt_lexer.specs.Sign.{is_digit, is_same_quote, continues_name, continues_tag, continues_attribute, spoils_number, opener_kind, before_single, allows_tag}
 use Rattle.mt_lexer.specs.Word.{void_tags, is_among, word_kind, before_word, is_number}
 use Rattle.mt_lexer.specs.Escape.{is_simple_escape, is_hex, hex_more, is_high, is_low, is_character}
 use Rattle.mt_lexer.specs.Spelling.{Outcome, finished, token, refused}
@@ -34,6 +34,11 @@ pub data Next : Type 0 where
   stop : Fault → ℕ → Next
   done : Next
 
+-- the mode below the one that ends, and the bottom mode never ends
+abbrev pub closed : Option ℕ → List Mode → Next
+closed q [] = go (m.Code q ∷ []) before.Other p.Fresh
+closed q (z ∷ ms) = go (z ∷ ms) before.Other p.Fresh
+
 -- one character g, of a class that is given beside it
 module _ (source : List ℕ) (g : SourceChar) where
   abbrev pub here : ℕ → Span
@@ -41,11 +46,6 @@ module _ (source : List ℕ) (g : SourceChar) where
 
   abbrev pub upto : ℕ → Span
   upto start = between start g.span.end
-
-  -- the mode below the one that ends, and the bottom mode never ends
-  abbrev pub closed : Option ℕ → List Mode → Next
-  closed q [] = go (m.Code q ∷ []) before.Other p.Fresh
-  closed q (z ∷ ms) = go (z ∷ ms) before.Other p.Fresh
 
   abbrev pub code_by : Class → Option ℕ → Before → List Mode → Next
   code_by c.End None b ms = done
@@ -116,17 +116,8 @@ module _ (source : List ℕ) (g : SourceChar) where
   quote_by t true b ms = text_closed t ms
   quote_by t false b ms = go ms b (p.Text t)
 
-  abbrev pub is_double : Quote → Bool
-  is_double quote.Double = true
-  is_double quote.Single = false
-
-  abbrev pub is_single_quote : Quote → Bool
-  is_single_quote quote.Double = false
-  is_single_quote quote.Single = true
-
   abbrev pub text_by : Class → OpenText → Before → List Mode → Next
-  text_by (c.Quote quote.Double) t b ms = quote_by t (is_double t.quote) b ms
-  text_by (c.Quote quote.Single) t b ms = quote_by t (is_single_quote t.quote) b ms
+  text_by (c.Quote u) t b ms = quote_by t (is_same_quote u t.quote) b ms
   text_by c.Backslash t b ms = go ms b (p.Escape (record { text = t; backslash = g.span.start }))
   text_by c.LineFeed t b ms = stop fault.Unclosed t.start
   text_by c.CarriageReturn t b ms = stop fault.Unclosed t.start
@@ -181,8 +172,8 @@ module _ (source : List ℕ) (g : SourceChar) where
   abbrev pub joined : Span → Before → List Mode → Next
   joined s b ms = emit k.Punctuator (upto s.start) (go ms b p.Fresh)
 
-  abbrev pub opened : Span → Opener → List Mode → Next
-  opened s a ms = emit (opener_kind a) (upto s.start) (go (m.Code (Some s.start) ∷ ms) before.Other p.Fresh)
+  abbrev pub opened : ℕ → Opener → List Mode → Next
+  opened s a ms = emit (opener_kind a) (upto s) (go (m.Code (Some s) ∷ ms) before.Other p.Fresh)
 
   abbrev pub equals_by : Class → Span → Before → List Mode → Next
   equals_by (c.Sign sign.Equals) s b ms = go ms b (p.SignEquals s g.span)
@@ -197,25 +188,22 @@ module _ (source : List ℕ) (g : SourceChar) where
   less_by c.Letter s b ms = letter_by (allows_tag b) s b ms
   less_by y s b ms = alone s y ms
 
-  abbrev pub plus_by : Class → Span → List Mode → Next
-  plus_by (c.Sign sign.Plus) s ms = joined s before.Operand ms
-  plus_by (c.Sign sign.Equals) s ms = joined s before.Other ms
-  plus_by y s ms = alone s y ms
-
-  abbrev pub minus_by : Class → Span → List Mode → Next
-  minus_by (c.Sign sign.Minus) s ms = joined s before.Operand ms
-  minus_by (c.Sign sign.Equals) s ms = joined s before.Other ms
-  minus_by y s ms = alone s y ms
-
   abbrev pub assigned_by : Class → Span → List Mode → Next
   assigned_by (c.Sign sign.Equals) s ms = joined s before.Other ms
   assigned_by y s ms = alone s y ms
 
+  abbrev pub plus_by : Class → Span → List Mode → Next
+  plus_by (c.Sign sign.Plus) s ms = joined s before.Operand ms
+  plus_by y s ms = assigned_by y s ms
+
+  abbrev pub minus_by : Class → Span → List Mode → Next
+  minus_by (c.Sign sign.Minus) s ms = joined s before.Operand ms
+  minus_by y s ms = assigned_by y s ms
+
   abbrev pub slash_by : Class → Span → Before → List Mode → Next
   slash_by (c.Sign sign.Slash) s b ms = go ms b p.LineComment
   slash_by (c.Sign sign.Star) s b ms = go ms b (p.BlockComment s.start)
-  slash_by (c.Sign sign.Equals) s b ms = joined s before.Other ms
-  slash_by y s b ms = alone s y ms
+  slash_by y s b ms = assigned_by y s ms
 
   abbrev pub ampersand_by : Class → Span → List Mode → Next
   ampersand_by (c.Sign sign.Ampersand) s ms = joined s before.Other ms
@@ -226,7 +214,7 @@ module _ (source : List ℕ) (g : SourceChar) where
   bar_by y s ms = stop fault.BadCharacter s.start
 
   abbrev pub opener_by : Class → Span → Opener → List Mode → Next
-  opener_by c.OpenBrace s a ms = opened s a ms
+  opener_by c.OpenBrace s a ms = opened s.start a ms
   opener_by y s a ms = stop fault.BadCharacter s.start
 
   abbrev pub sign_by : Class → Span → Sign → Before → List Mode → Next
@@ -276,8 +264,7 @@ module _ (source : List ℕ) (g : SourceChar) where
   value_quote_by s u false b ms = go ms b (p.Quoted s u)
 
   abbrev pub value_by : Class → ℕ → Quote → Before → List Mode → Next
-  value_by (c.Quote quote.Double) s u b ms = value_quote_by s u (is_double u) b ms
-  value_by (c.Quote quote.Single) s u b ms = value_quote_by s u (is_single_quote u) b ms
+  value_by (c.Quote w) s u b ms = value_quote_by s u (is_same_quote w u) b ms
   value_by c.End s u b ms = tag_unclosed ms
   value_by y s u b ms = go ms b (p.Quoted s u)
 
@@ -298,11 +285,11 @@ module _ (source : List ℕ) (g : SourceChar) where
 
   abbrev pub child_text_sign_by : Class → ℕ → ℕ → Opener → Before → List Mode → Next
   child_text_sign_by c.OpenBrace s t a b ms =
-      emit k.ChildText (between s t) (emit (opener_kind a) (upto t) (go (m.Code (Some t) ∷ ms) before.Other p.Fresh))
+      emit k.ChildText (between s t) (opened t a ms)
   child_text_sign_by y s t a b ms = child_text_by y s b ms
 
   abbrev pub child_sign_by : Class → ℕ → Opener → Before → List Mode → Next
-  child_sign_by c.OpenBrace t a b ms = emit (opener_kind a) (upto t) (go (m.Code (Some t) ∷ ms) before.Other p.Fresh)
+  child_sign_by c.OpenBrace t a b ms = opened t a ms
   child_sign_by y t a b ms = child_text_by y t b ms
 
   abbrev pub child_less_by : Class → ℕ → Before → List Mode → Next
@@ -330,9 +317,7 @@ module _ (source : List ℕ) (g : SourceChar) where
   step_by p.Fresh y b ms = fresh_by y b ms
   step_by (p.Name s) y b ms = if continues_name y then go ms b (p.Name s) else word_by y s b ms
   step_by (p.Zero s) y b ms = number_by y s ms
-  step_by (p.Number s) c.Zero b ms = go ms b (p.Number s)
-  step_by (p.Number s) c.Digit b ms = go ms b (p.Number s)
-  step_by (p.Number s) y b ms = number_by y s ms
+  step_by (p.Number s) y b ms = if is_digit y then go ms b (p.Number s) else number_by y s ms
   step_by (p.Text t) y b ms = text_by y t b ms
   step_by (p.Escape e) y b ms = escape_by e b ms
   step_by (p.Unicode e) y b ms = unicode_by e b ms

@@ -91,6 +91,11 @@ abbrev pub quote_of : Class → Option Quote
 quote_of (c.Quote u) = Some u
 quote_of _ = None
 
+abbrev pub is_same_quote : Quote → Quote → Bool
+is_same_quote quote.Double quote.Double = true
+is_same_quote quote.Single quote.Single = true
+is_same_quote _ _ = false
+
 abbrev pub closes : Quote → Class → Bool
 closes quote.Double (c.Quote quote.Double) = true
 closes quote.Single (c.Quote quote.Single) = true

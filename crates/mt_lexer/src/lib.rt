@@ -2,8 +2,13 @@
 #![tactic(auto)]
 
 mod character;
+mod children;
+mod code;
+mod lexer;
 mod mode;
 mod part;
+mod sign;
+mod tag;
 mod token;
 
-pub use token::{Kind, Token};
+pub use token::{Kind, Token, Tokens};

@@ -1,5 +1,8 @@
 //! What the lexer reads at a place.
 
+use std::alloc::{AllocError, Global};
+use std::marker::Model;
+
 /// A mode. Its number is the byte at which it was opened.
 #[derive(Clone, Copy)]
 pub enum Mode {
@@ -34,4 +37,44 @@ pub enum Fault {
     BadEscape,
     Unclosed,
     NumberTooLarge,
+}
+
+/// The modes that are open, the innermost first.
+#[derive(Drop)]
+pub struct Modes {
+    items: Vec<Mode>,
+}
+
+impl Model for Modes {
+    ghost use Rattle.std.specs.Prelude.{List, reverse};
+    ghost use Rattle.mt_lexer.specs.declared.mode.Mode.{Mode};
+
+    ghost Value = { List Mode };
+
+    ghost view = { λ s. reverse s.items.items };
+}
+
+impl Modes {
+    ghost use Rattle.std.specs.Prelude.{◌≡◌, [], ◌∷◌, OnOk, MatchOption};
+
+    pub fn new(alloc: Global) -> Modes
+        ensures { result ≡ [] }
+    {
+        Modes {
+            items: Vec::new(alloc),
+        }
+    }
+
+    pub fn push(&mut self, mode: Mode) -> Result<(), AllocError>
+        ensures { OnOk result (self.new ≡ mode ∷ self.old) }
+    {
+        self.items.push(mode)?;
+        Ok(())
+    }
+
+    pub fn pop(&mut self) -> Option<Mode>
+        ensures { MatchOption result ((self.old ≡ []) × (self.new ≡ [])) (λ x. self.old ≡ x ∷ self.new) }
+    {
+        self.items.pop()
+    }
 }
