@@ -39,6 +39,15 @@ abbrev pub closed : Option ℕ → List Mode → Next
 closed q [] = go (m.Code q ∷ []) before.Other p.Fresh
 closed q (z ∷ ms) = go (z ∷ ms) before.Other p.Fresh
 
+abbrev pub block_by : Class → ℕ → Before → List Mode → Next
+block_by (c.Sign sign.Star) s b ms = go ms b (p.BlockStar s)
+block_by c.End s b ms = stop fault.Unclosed s
+block_by y s b ms = go ms b (p.BlockComment s)
+
+abbrev pub star_by : Class → ℕ → Before → List Mode → Next
+star_by (c.Sign sign.Slash) s b ms = go ms b p.Fresh
+star_by y s b ms = block_by y s b ms
+
 -- one character g, of a class that is given beside it
 module _ (source : List ℕ) (g : SourceChar) where
   abbrev pub here : ℕ → Span
@@ -240,15 +249,6 @@ module _ (source : List ℕ) (g : SourceChar) where
   line_by c.LineFeed b ms = fresh_by c.LineFeed b ms
   line_by c.End b ms = fresh_by c.End b ms
   line_by y b ms = go ms b p.LineComment
-
-  abbrev pub block_by : Class → ℕ → Before → List Mode → Next
-  block_by (c.Sign sign.Star) s b ms = go ms b (p.BlockStar s)
-  block_by c.End s b ms = stop fault.Unclosed s
-  block_by y s b ms = go ms b (p.BlockComment s)
-
-  abbrev pub star_by : Class → ℕ → Before → List Mode → Next
-  star_by (c.Sign sign.Slash) s b ms = go ms b p.Fresh
-  star_by y s b ms = block_by y s b ms
 
   abbrev pub tag_name_by : Class → ℕ → ℕ → Before → List Mode → Next
   tag_name_by y s n b ms =

@@ -24,3 +24,7 @@ flow_of flow.End ms b = done
 abbrev pub Steps : Result Flow AllocError → Next → Lexer → Lexer → Type 0
 Steps (Err e) n old new = Unit {0}
 Steps (Ok r) n old new = (ts : List Mark) × (new.tokens ≡ with_marks old.tokens ts) × (n ≡ then ts (flow_of r new.modes new.before))
+
+-- a step that touches nothing goes on so
+abbrev pub Flows : Flow → (List ℕ → Before → List Mode → Next) → Type 0
+Flows r n = (source : List ℕ) (b : Before) (ms : List Mode) → n source b ms ≡ flow_of r ms b

@@ -32,10 +32,14 @@ abbrev pub before_word : Before → List ℕ → Before
 before_word before.Dot word = before.Operand
 before_word _ word = if is_among reserved_words word then (if is_among constant_words word then before.Operand else before.Other) else before.Operand
 
+-- what a digit makes of the number before it
+abbrev pub digit_more : ℕ → ℕ → ℕ
+digit_more v x = v * 10 + (x - 48)
+
 -- what the digits spell, behind digits that spell v
 abbrev pub number_from : ℕ → List ℕ → ℕ
 number_from v [] = v
-number_from v (x ∷ xs) = number_from (v * 10 + (x - 48)) xs
+number_from v (x ∷ xs) = number_from (digit_more v x) xs
 
 abbrev pub number_of : List ℕ → ℕ
 number_of digits = number_from 0 digits

@@ -8,7 +8,10 @@ mod lexer;
 mod mode;
 mod part;
 mod sign;
+mod step;
 mod tag;
+mod text;
 mod token;
+mod word;
 
 pub use token::{Kind, Token, Tokens};
