@@ -4,3 +4,8 @@ pub mod Tables
 pub mod Complete
 pub mod Total
 pub mod Marks
+pub mod Numbers
+pub mod Flows
+pub mod Turn
+pub mod Readings
+pub mod Ordered

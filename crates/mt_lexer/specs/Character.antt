@@ -13,10 +13,14 @@ use Rattle.mt_lexer.specs.declared.character.Quote.TheVariants as quote
 abbrev pub Chars : Type 0
 Chars = List SourceChar
 
+-- the character at the byte `at`
+abbrev pub located : ℕ → ℕ → SourceChar
+located x at = record { value = x; span = record { start = at; end = at + length (encode_utf8 x) } }
+
 -- these characters from the byte `at` on
 abbrev pub characters_from : ℕ → List ℕ → Chars
 characters_from at [] = []
-characters_from at (x ∷ xs) = let end = at + length (encode_utf8 x) in record { value = x; span = record { start = at; end = end } } ∷ characters_from end xs
+characters_from at (x ∷ xs) = located x at ∷ characters_from (at + length (encode_utf8 x)) xs
 
 -- the characters that the bytes of a source spell
 abbrev pub characters : List ℕ → Chars

@@ -6,3 +6,6 @@ pub mod Spelling
 pub mod Machine
 pub mod Tokens
 pub mod Steps
+pub mod Verdict
+pub mod Ending
+pub mod Order

@@ -1,6 +1,7 @@
 //! Characters of the source, and what they are to the lexer.
 
-ghost use Rattle.std.specs.Prelude.{◌≡◌, ◌<◌};
+ghost use Rattle.std.specs.Prelude.{◌≡◌, ◌<◌, ◌+◌, ◌^◌, length};
+ghost use Rattle.std.specs.Char.{encode_utf8};
 ghost use Rattle.mt_lexer.specs.Character as spelling;
 ghost use Rattle.mt_lexer.specs.Sign as table;
 
@@ -14,6 +15,28 @@ pub struct SourceChar {
 }
 
 impl SourceChar {
+    /// The character that begins at this byte.
+    pub fn new(value: char, start: u32) -> SourceChar
+        requires { start + length (encode_utf8 value) < 2 ^ 32 }
+        ensures { result ≡ spelling.located value start }
+    {
+        let end = start + value.len_utf8() as u32;
+        SourceChar {
+            value,
+            span: Span { start, end },
+        }
+    }
+
+    /// What stands for a character at the end of the source, which is this byte.
+    pub fn end(at: u32) -> SourceChar
+        ensures { result ≡ record { value = 0; span = spelling.between at at } }
+    {
+        SourceChar {
+            value: '\0',
+            span: Span { start: at, end: at },
+        }
+    }
+
     /// From a byte to before the character.
     pub fn span_before(self, start: u32) -> Span
         ensures { result ≡ spelling.between start self.span.start }

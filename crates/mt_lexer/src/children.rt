@@ -38,8 +38,13 @@ impl Lexer<'_> {
                 Ok(Flow::Continue(Part::ChildTextSign(start, at.span.start, Opener::Dollar)))
             }
             Class::Sign(Sign::Less) | Class::End => {
-                self.emit(Kind::ChildText, at.span_before(start), Before::Other)?;
-                self.fresh(at, class)
+                self.emit_before(
+                    Kind::ChildText,
+                    at.span_before(start),
+                    Before::Other,
+                    at,
+                    class,
+                )
             }
             _ => Ok(Flow::Continue(Part::ChildText(start))),
         }

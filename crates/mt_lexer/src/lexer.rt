@@ -49,6 +49,21 @@ impl Lexer<'_> {
         Ok(Flow::Continue(part))
     }
 
+    // A token more, and then the character afresh.
+    pub fn emit_before(
+        &mut self,
+        kind: Kind,
+        span: Span,
+        before: Before,
+        at: SourceChar,
+        class: Class,
+    ) -> Step
+        ensures { Steps result (machine.emit kind span (machine.fresh_by self.old.tokens.source at class before self.old.modes)) self.old self.new }
+    {
+        self.emit(kind, span, before)?;
+        self.fresh(at, class)
+    }
+
     // The character, read afresh.
     pub fn fresh(&mut self, at: SourceChar, class: Class) -> Step
         ensures { Steps result (machine.fresh_by self.old.tokens.source at class self.old.before self.old.modes) self.old self.new }

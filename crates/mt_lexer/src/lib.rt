@@ -4,9 +4,12 @@
 mod character;
 mod children;
 mod code;
+
 mod lexer;
 mod mode;
 mod part;
+mod reading;
+mod refusal;
 mod sign;
 mod step;
 mod tag;
@@ -14,4 +17,6 @@ mod text;
 mod token;
 mod word;
 
+pub use reading::lex;
+pub use refusal::LexRefusal;
 pub use token::{Kind, Token, Tokens};

@@ -47,8 +47,7 @@ impl Lexer<'_> {
     fn alone(&mut self, sign: Span, at: SourceChar, class: Class) -> Step
         ensures { Steps result (machine.alone self.old.tokens.source at sign class self.old.modes) self.old self.new }
     {
-        self.emit(Kind::Punctuator, sign, Before::Other)?;
-        self.fresh(at, class)
+        self.emit_before(Kind::Punctuator, sign, Before::Other, at, class)
     }
 
     // The sign with the character.

@@ -57,13 +57,19 @@ impl Lexer<'_> {
         ensures { Steps result (machine.step_by self.old.tokens.source at (Part.Name start) class self.old.before self.old.modes) self.old self.new }
     {
         if class.continues_name() {
-            return Ok(Flow::Continue(Part::Name(start)));
+            Ok(Flow::Continue(Part::Name(start)))
+        } else {
+            self.end_word(start, at, class)
         }
+    }
+
+    fn end_word(&mut self, start: u32, at: SourceChar, class: Class) -> Step
+        ensures { Steps result (machine.word_by self.old.tokens.source at class start self.old.before self.old.modes) self.old self.new }
+    {
         let span = at.span_before(start);
         let word = self.tokens.text(span);
         let before = before_word(self.before, word);
-        self.emit(word_kind(word), span, before)?;
-        self.fresh(at, class)
+        self.emit_before(word_kind(word), span, before, at, class)
     }
 
     // A number ends, or goes on.
@@ -85,8 +91,7 @@ impl Lexer<'_> {
         if class.spoils_number() {
             Ok(Flow::Refuse(Fault::BadCharacter, at.span.start))
         } else if is_number(self.tokens.text(span)) {
-            self.emit(Kind::Number, span, Before::Operand)?;
-            self.fresh(at, class)
+            self.emit_before(Kind::Number, span, Before::Operand, at, class)
         } else {
             Ok(Flow::Refuse(Fault::NumberTooLarge, start))
         }

@@ -63,8 +63,13 @@ impl Lexer<'_> {
         if class.continues_attribute() {
             return Ok(Flow::Continue(Part::AttributeName(start)));
         }
-        self.emit(Kind::AttributeName, at.span_before(start), Before::Other)?;
-        self.fresh(at, class)
+        self.emit_before(
+            Kind::AttributeName,
+            at.span_before(start),
+            Before::Other,
+            at,
+            class,
+        )
     }
 
     // A quoted value is closed, or goes on.

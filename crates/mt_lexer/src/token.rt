@@ -59,9 +59,10 @@ impl<'a> Model for Tokens<'a> {
 }
 
 impl<'a> Tokens<'a> {
-    ghost use Rattle.std.specs.Prelude.{◌≡◌, [], ◌∷◌, OnOk, length};
+    ghost use Rattle.std.specs.Prelude.{◌≡◌, ◌<◌, [], ◌∷◌, OnOk, length};
     ghost use Rattle.mt_lexer.specs.Tokens.{AllCut, Mark, marks_of, with_marks};
     ghost use Rattle.mt_lexer.specs.Character.{text_of};
+    ghost use Rattle.mt_lexer.specs.Verdict.{start_of};
 
     /// The whole source.
     pub fn source(&self) -> &'a [u8]
@@ -91,6 +92,14 @@ impl<'a> Tokens<'a> {
         ensures { result ≡ length self.now.marks }
     {
         self.list.len()
+    }
+
+    // The byte at which the token of this number begins, counted from 0.
+    pub(crate) fn start_of(&self, number: usize) -> u32
+        requires { number < length self.now.marks }
+        ensures { result ≡ start_of number self.now.marks }
+    {
+        self.list[number].span.start
     }
 
     pub(crate) fn text(&self, span: Span) -> &'a [u8]

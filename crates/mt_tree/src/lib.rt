@@ -1,8 +1,18 @@
-//! Texts, rows, buffers and places, data and HTML trees, which contracts see as plain values.
+//! The values that every layer of the compiler, the server and the client speaks of: texts, lists, places in a source,
+//! data that cross between the tiers, HTML trees, and the tables of tags and attributes.
+//!
+//! Contracts see each of them as a plain value without pointers: a [`Text`] is the list of its characters, a [`Row`] and a
+//! [`Buffer`] are lists of items, a [`Boxed`] is what it holds, and [`Data`] and [`Html`] are finite trees. So two values
+//! with the same contents are the same value, whether or not they share memory. `Text` and `Row` never change and are
+//! shared by counting; nothing here is shared between threads.
+//!
+//! Each call that takes memory answers [`NoMemory`] where there is none left, and has no other refusal. A call whose
+//! result is no `Result` takes no memory. Syntax trees, the store of values, pages and messages stand on this crate.
 #![tactic(auto)]
 
 mod boxed;
 mod buffer;
+mod closure;
 mod data;
 mod fault;
 mod html;
@@ -13,10 +23,14 @@ mod text;
 
 pub use boxed::Boxed;
 pub use buffer::Buffer;
+pub use closure::Closure;
 pub use data::{Data, Entry};
 pub use fault::NoMemory;
 pub use html::{Attribute, AttributeValue, Element, Html};
 pub use place::{Place, Span};
 pub use row::Row;
-pub use tables::{attribute_fits, tag_known, tag_void};
+pub use tables::{attribute_fits, handler_known, tag_known, tag_void};
 pub use text::Text;
+
+#[cfg(test)]
+mod tests;

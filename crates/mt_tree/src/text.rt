@@ -7,7 +7,8 @@ use std::alloc::Global;
 use std::marker::Model;
 use std::rc::RcStr;
 
-/// A text that never changes and is shared. Contracts see its characters.
+/// A text that never changes, and whose contents are shared by counting. Contracts see the list of its characters, each a
+/// Unicode scalar value, so a text and those that share its contents are the same value.
 #[derive(Drop)]
 pub struct Text {
     inner: RcStr,
@@ -24,6 +25,10 @@ impl Model for Text {
 }
 
 impl Text {
+    /// Copies a text.
+    ///
+    /// # Errors
+    /// `NoMemory`.
     pub fn from_str(alloc: Global, text: &str) -> Result<Text, NoMemory>
         ensures { IfOk result (λ made. made ≡ chars text.now) }
     {
@@ -33,6 +38,7 @@ impl Text {
         }
     }
 
+    /// Lends the characters. Takes no memory.
     pub fn as_str(&self) -> &str
         ensures value { chars result.now ≡ self.now }
         ensures bytes { result.now ≡ encode_utf8_all self.now }
@@ -41,21 +47,24 @@ impl Text {
         self.inner.as_str()
     }
 
-    /// The bytes of the text in UTF-8. Takes no memory.
+    /// Lends the bytes of the text in UTF-8. Takes no memory.
     pub fn as_bytes(&self) -> &[u8]
         ensures { result.now ≡ encode_utf8_all self.now }
     {
         self.as_str().as_bytes()
     }
 
-    /// Whether it has these characters. Takes no memory.
+    /// Whether the text has just these characters. Takes no memory.
     pub fn is(&self, text: &str) -> bool
         ensures { IsTrue result ↔ (self.now ≡ chars text.now) }
     {
         same_text(self.as_str(), text)
     }
 
-    /// An equal text, which shares the contents.
+    /// An equal text, which shares the contents and copies none.
+    ///
+    /// # Errors
+    /// `NoMemory` where the count of sharers is at its last value.
     pub fn share(&self) -> Result<Text, NoMemory>
         ensures { IfOk result (λ made. made ≡ self.now) }
     {
@@ -65,7 +74,7 @@ impl Text {
         }
     }
 
-    /// The length in units of UTF-16.
+    /// The length in units of UTF-16: one for each character up to U+FFFF, and two for each above it. Takes no memory.
     pub fn units(&self) -> u64
         ensures { result ≡ units_of self.now }
     {

@@ -1,0 +1,96 @@
+-- A source has one reading, and it is what the machine gives.
+use Rattle.std.proofs.Common.{◌≡◌, ℕ, ◌+◌, ◌<◌, ◌≤◌, Bool, true, false, List, [], ◌∷◌, ◌++◌, length, take, get_or, Option, Some, None, Result, Ok, Err, refl, sym, ap, ◌∙◌, subst, append-nil, length-append, arith}
+use Rattle.std.specs.Prelude.{nat_le, if◌then◌else◌}
+use Rattle.std.specs.Str.{IsUtf8, IsValidUpTo}
+use Rattle.std.proofs.lemmas.Bool.{le-leb, lt-leb}
+use Rattle.std.proofs.lemmas.List.{take_all, get_or_append_left}
+use Rattle.std.proofs.lemmas.Str.{utf8_valid_len-IsValidUpTo}
+use Rattle.mt_tree.specs.Place.{place_of}
+use Rattle.mt_lexer.specs.declared.reading.Ending.{Ending}
+use Rattle.mt_lexer.specs.declared.reading.Ending.TheVariants as ending
+use Rattle.mt_lexer.specs.declared.refusal.LexRefusal.{LexRefusal}
+use Rattle.mt_lexer.specs.declared.refusal.LexRefusal.TheVariants as refusal
+use Rattle.mt_lexer.specs.declared.token.Kind.TheVariants as k
+use Rattle.mt_lexer.specs.declared.mode.Fault.{Fault}
+use Rattle.mt_lexer.specs.declared.mode.Fault.TheVariants as fault
+use Rattle.mt_lexer.specs.declared.mode.Mode.TheVariants as m
+use Rattle.mt_lexer.specs.declared.mode.Before.TheVariants as before
+use Rattle.mt_lexer.specs.declared.part.Part.TheVariants as p
+use Rattle.mt_lexer.specs.Character.{characters, between}
+use Rattle.mt_lexer.specs.Ending.{front, Ends}
+use Rattle.mt_lexer.specs.Machine.{lexed}
+use Rattle.mt_lexer.specs.Spelling.{Outcome, finished, token, refused}
+use Rattle.mt_lexer.specs.Tokens.{Mark, Spelled}
+use Rattle.mt_lexer.specs.Verdict.{marks_in, refusal_in, most_tokens, start_of, refusal_of, ended, verdict, Reads, reads_text, no_text, IsReading}
+use Rattle.mt_lexer.proofs.Complete.{one_outcome}
+use Rattle.mt_lexer.proofs.Total.{sound}
+
+text_not : (source : List ℕ) (n : ℕ) → IsUtf8 source → IsValidUpTo source n → ⊥
+text_not source n u v = v.longest (length source) v.short (subst IsUtf8 (sym (take_all (length source) source (omega arith))) u)
+
+-- a source has at most one reading
+pub only : (source : List ℕ) (r w : Result Spelled LexRefusal) → Reads source r → Reads source w → w ≡ r
+only source r w (reads_text u d) (reads_text v e) = ap (verdict source) (one_outcome source e d)
+only source r w (reads_text u d) (no_text {n} v) = absurd (text_not source n u v)
+only source r w (no_text {n} v) (reads_text u d) = absurd (text_not source n u v)
+only source r w (no_text {n} v) (no_text {l} e) =
+    let same : l ≡ n = sym (utf8_valid_len-IsValidUpTo source l e) ∙ utf8_valid_len-IsValidUpTo source n v in
+    ap (λ (n : ℕ). Err {T = Spelled} (refusal.NotUtf8 (place_of source n))) same
+
+abbrev OneReading : List ℕ → Result Spelled LexRefusal → Type 0
+OneReading source r = Reads source r × ((w : Result Spelled LexRefusal) → Reads source w → w ≡ r)
+
+one_reading : (source : List ℕ) (r : Result Spelled LexRefusal) → Reads source r → OneReading source r
+one_reading source r d = (d, λ w e. only source r w d e)
+
+marks_in-front : (ms : List Mark) (o : Outcome) → marks_in (front ms o) ≡ ms ++ marks_in o
+marks_in-front [] o = refl
+marks_in-front (t ∷ ms) o = ap (λ (l : List Mark). t ∷ l) (marks_in-front ms o)
+
+refusal_in-front : (ms : List Mark) (o : Outcome) → refusal_in (front ms o) ≡ refusal_in o
+refusal_in-front [] o = refl
+refusal_in-front (t ∷ ms) o = refusal_in-front ms o
+
+few_verdict : (source : List ℕ) (ms : List Mark) (o : Outcome) → marks_in o ≡ [] → length ms ≤ most_tokens → verdict source (front ms o) ≡ ended source ms (refusal_in o)
+few_verdict source ms o none few =
+    let same : marks_in (front ms o) ≡ ms = marks_in-front ms o ∙ ap (λ (l : List Mark). ms ++ l) none ∙ append-nil ms in
+    let many : Result Spelled LexRefusal = Err (refusal.TooManyTokens (place_of source (start_of most_tokens ms))) in
+    ap (λ (l : List Mark). if nat_le (length l) most_tokens then ended source l (refusal_in (front ms o)) else Err {T = Spelled} (refusal.TooManyTokens (place_of source (start_of most_tokens l)))) same
+    ∙ ap (λ (b : Bool). if b then ended source ms (refusal_in (front ms o)) else many) (le-leb (length ms) most_tokens few)
+    ∙ ap (λ (r : Option (Fault × ℕ)). ended source ms r) (refusal_in-front ms o)
+
+many_verdict : (source : List ℕ) (ms : List Mark) (o : Outcome) → most_tokens < length ms → verdict source (front ms o) ≡ Err (refusal.TooManyTokens (place_of source (start_of most_tokens ms)))
+many_verdict source ms o many =
+    let all = ms ++ marks_in o in
+    let long : most_tokens < length all = omega (arith, length-append ms (marks_in o)) in
+    ap (λ (l : List Mark). if nat_le (length l) most_tokens then ended source l (refusal_in (front ms o)) else Err {T = Spelled} (refusal.TooManyTokens (place_of source (start_of most_tokens l)))) (marks_in-front ms o)
+    ∙ ap (λ (b : Bool). if b then ended source all (refusal_in (front ms o)) else Err {T = Spelled} (refusal.TooManyTokens (place_of source (start_of most_tokens all)))) (lt-leb (length all) most_tokens long)
+    ∙ ap (λ (t : Mark). Err {T = Spelled} (refusal.TooManyTokens (place_of source t.span.start))) (get_or_append_left ms (marks_in o) (record { kind = k.Name; span = between 0 0 }) most_tokens many)
+
+abbrev pub read_whole : List ℕ → Outcome
+read_whole source = lexed source (characters source) (m.Code None ∷ []) before.Other p.Fresh
+
+reads_verdict : (source : List ℕ) → IsUtf8 source → Reads source (verdict source (read_whole source))
+reads_verdict source u = reads_text u (sound source (m.Code None ∷ []) before.Other (characters source) tt)
+
+reads_as : (source : List ℕ) (o : Outcome) (r : Result Spelled LexRefusal) → IsUtf8 source → o ≡ read_whole source → verdict source o ≡ r → OneReading source r
+reads_as source o r u e h = one_reading source r (subst (λ (w : Result Spelled LexRefusal). Reads source w) (ap (verdict source) (sym e) ∙ h) (reads_verdict source u))
+
+pub reads_tokens : (source : List ℕ) (t : Spelled) → t.source ≡ source → IsUtf8 source → Ends ending.Finished t.marks (read_whole source) → IsReading source (Ok t)
+reads_tokens source t same u h =
+    reads_as source (front t.marks finished) (Ok t) u h.0 (few_verdict source t.marks finished refl h.1 ∙ ap (λ (l : List ℕ). Ok {E = LexRefusal} (record { source = l; marks = t.marks })) (sym same))
+
+pub reads_refusal : (source : List ℕ) (f : Fault) (at : ℕ) (ms : List Mark) → IsUtf8 source → Ends (ending.Refused f at) ms (read_whole source) → IsReading source (Err (refusal_of f (place_of source at)))
+reads_refusal source f at ms u h = by_fault f (reads_as source (front ms (refused f at)) (Err (refusal_of f (place_of source at))) u h.0 (few_verdict source ms (refused f at) refl h.1))
+  where
+    by_fault : (f : Fault) → OneReading source (Err (refusal_of f (place_of source at))) → IsReading source (Err (refusal_of f (place_of source at)))
+    by_fault fault.BadCharacter d = d
+    by_fault fault.BadEscape d = d
+    by_fault fault.Unclosed d = d
+    by_fault fault.NumberTooLarge d = d
+
+pub reads_many : (source : List ℕ) (ms : List Mark) → IsUtf8 source → Ends ending.TooManyTokens ms (read_whole source) → IsReading source (Err (refusal.TooManyTokens (place_of source (start_of most_tokens ms))))
+reads_many source ms u h = reads_as source (front ms h.0) (Err (refusal.TooManyTokens (place_of source (start_of most_tokens ms)))) u h.1 (many_verdict source ms h.0 h.2)
+
+pub reads_no_text : (source : List ℕ) (n : ℕ) → IsValidUpTo source n → IsReading source (Err (refusal.NotUtf8 (place_of source n)))
+reads_no_text source n v = one_reading source (Err (refusal.NotUtf8 (place_of source n))) (no_text v)
