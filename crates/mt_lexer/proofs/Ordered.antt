@@ -6,10 +6,9 @@ use Rattle.std.specs.Str.{encode_utf8_all}
 use Rattle.mt_lexer.specs.declared.character.SourceChar.{SourceChar}
 use Rattle.mt_lexer.specs.declared.character.Class.{Class}
 use Rattle.mt_lexer.specs.declared.character.Quote.{Quote}
-use Rattle.mt_lexer.specs.declared.token.Kind.{Kind}
 use Rattle.mt_lexer.specs.declared.mode.Mode.{Mode}
 use Rattle.mt_lexer.specs.declared.mode.Before.{Before}
-use Rattle.mt_lexer.specs.Character.{Chars, located, characters_from, place, until, through}
+use Rattle.mt_lexer.specs.Character.{Chars, located, characters_from, place}
 use Rattle.mt_lexer.specs.Escape.{is_simple_escape, simple_escape, is_hex, hex_more, is_high, is_low, is_character, digits, code_point, in_braces, low_digits, second_unit, paired, pair_of, of_unit, unicode, escape}
 use Rattle.mt_lexer.specs.Order.{InOrder}
 use Rattle.mt_lexer.specs.Spelling.{Outcome, finished, token, refused, Run, run_end, run_more, TextEnd, closed, broken, InText, text_closes, text_plain, text_escape, text_bad_escape, text_unclosed, Digits, zero_alone, more_digits, CloseName, close_name, Lexes, l_done, l_open, l_space, l_line_comment, l_block_comment, l_block_open, l_word, l_number, l_number_spoiled, l_number_large, l_text, l_text_refused, l_brace, l_close, l_close_first, l_single, l_three, l_two, l_one, l_stray, l_bad, l_opener, l_tag_open, g_end, g_space, g_name, g_equals, g_quoted, g_quoted_open, g_empty, g_void, g_children, g_bad, h_end, h_text, h_close, h_close_bad, h_close_unnamed, h_close_open, h_close_end, h_bad}
@@ -115,7 +114,7 @@ module _ (source : List ℕ) where
   EndsBehind (broken f at) cs = Unit {0}
 
   end_past : (r : TextEnd) (cs mid : Chars) → Behind cs mid → EndsBehind r mid → EndsBehind r cs
-  end_past (closed end rest) cs mid f g h = let a = f h in let b = g a.1 in (omega (arith, a.0, b.0), b.1, b.2)
+  end_past (closed end rest) cs mid f g = λ h. let a = f h in let b = g a.1 in (omega (arith, a.0, b.0), b.1, b.2)
   end_past (broken q at) cs mid f g = tt
 
   text_behind : {s : ℕ} {u : Quote} {cs : Chars} {r : TextEnd} → InText s u cs r → EndsBehind r cs
@@ -151,12 +150,14 @@ module _ (source : List ℕ) where
   skipped cs rest ts f g h = let a = f h in lower (place source cs) (place source rest) (length source) ts a.0 (g a.1)
 
   -- a token up to the rest
-  ran : (kind : Kind) (x : SourceChar) (cs rest : Chars) (ts : List Mark) → Behind (x ∷ cs) rest → OnwardFrom ts rest → OnwardFrom (record { kind = kind; span = until source x rest } ∷ ts) (x ∷ cs)
-  ran kind x cs rest ts f g h = let a = f h in (omega arith, a.0, g a.1)
+  ran : (x : SourceChar) (cs rest : Chars) (ts : List Mark) → Behind (x ∷ cs) rest → OnwardFrom ts rest → Chained (x ∷ cs)
+      → (x.span.start ≤ x.span.start) × (x.span.start ≤ place source rest) × InOrder (place source rest) ts (length source)
+  ran x cs rest ts f g h = let a = f h in (omega arith, a.0, g a.1)
 
   -- a token up to the end of a character
-  joined : (kind : Kind) (x z : SourceChar) (cs rest : Chars) (ts : List Mark) → Behind (x ∷ cs) (z ∷ rest) → OnwardFrom ts rest → OnwardFrom (record { kind = kind; span = through x z } ∷ ts) (x ∷ cs)
-  joined kind x z cs rest ts f g h = let a = f h in (omega arith, omega (arith, a.0, a.1.0), lower z.span.end (place source rest) (length source) ts a.1.1 (g a.1.2))
+  joined : (x z : SourceChar) (cs rest : Chars) (ts : List Mark) → Behind (x ∷ cs) (z ∷ rest) → OnwardFrom ts rest → Chained (x ∷ cs)
+      → (x.span.start ≤ x.span.start) × (x.span.start ≤ z.span.end) × InOrder z.span.end ts (length source)
+  joined x z cs rest ts f g h = let a = f h in (omega arith, omega (arith, a.0, a.1.0), lower z.span.end (place source rest) (length source) ts a.1.1 (g a.1.2))
 
   next : (x : SourceChar) (cs : Chars) → Behind (x ∷ cs) cs
   next x cs = past x cs cs (same cs)
@@ -169,38 +170,38 @@ module _ (source : List ℕ) where
   ordered (l_block_comment {x = x} {y} {v} {w} {cs} {rest} {o} e f r g h d) =
       skipped (x ∷ y ∷ cs) rest (marks_in o) (past x (y ∷ cs) rest (past y cs rest (onward cs (v ∷ w ∷ rest) rest (run_behind r) (past v (w ∷ rest) rest (next w rest))))) (ordered d)
   ordered (l_block_open {x = x} {y} {cs} e f r) = place_le (x ∷ y ∷ cs)
-  ordered (l_word {x = x} {cs} {rest} {o} h r d) = ran _ x cs rest (marks_in o) (past x cs rest (run_behind r)) (ordered d)
-  ordered (l_number {x = x} {cs} {rest} {o} r h l d) = ran _ x cs rest (marks_in o) (past x cs rest (digits_behind r)) (ordered d)
+  ordered (l_word {x = x} {cs} {rest} {o} h r d) = ran x cs rest (marks_in o) (past x cs rest (run_behind r)) (ordered d)
+  ordered (l_number {x = x} {cs} {rest} {o} r h l d) = ran x cs rest (marks_in o) (past x cs rest (digits_behind r)) (ordered d)
   ordered (l_number_spoiled {x = x} {cs} r h) = place_le (x ∷ cs)
   ordered (l_number_large {x = x} {cs} r h l) = place_le (x ∷ cs)
   ordered (l_text {x = x} {cs} {rest} {o} {u} {end} h r d) = λ g. let a = text_behind r g.2 in
       (omega arith, omega (arith, g.0, g.1, a.0), lower end (place source rest) (length source) (marks_in o) a.1 (ordered d a.2))
   ordered (l_text_refused {x = x} {cs} h r) = place_le (x ∷ cs)
-  ordered (l_brace {x = x} {cs} {o} e d) = joined _ x x cs cs (marks_in o) (same (x ∷ cs)) (ordered d)
-  ordered (l_close {x = x} {cs} {o} e d) = joined _ x x cs cs (marks_in o) (same (x ∷ cs)) (ordered d)
-  ordered (l_close_first {x = x} {cs} {o} e d) = joined _ x x cs cs (marks_in o) (same (x ∷ cs)) (ordered d)
-  ordered (l_single {x = x} {cs} {o} h d) = joined _ x x cs cs (marks_in o) (same (x ∷ cs)) (ordered d)
-  ordered (l_three {x = x} {y} {z} {cs} {o} h e d) = joined _ x z (y ∷ z ∷ cs) cs (marks_in o) (past x (y ∷ z ∷ cs) (z ∷ cs) (next y (z ∷ cs))) (ordered d)
-  ordered (l_two {x = x} {y} {cs} {o} h e d) = joined _ x y (y ∷ cs) cs (marks_in o) (next x (y ∷ cs)) (ordered d)
-  ordered (l_one {x = x} {cs} {o} h e d) = joined _ x x cs cs (marks_in o) (same (x ∷ cs)) (ordered d)
+  ordered (l_brace {x = x} {cs} {o} e d) = joined x x cs cs (marks_in o) (same (x ∷ cs)) (ordered d)
+  ordered (l_close {x = x} {cs} {o} e d) = joined x x cs cs (marks_in o) (same (x ∷ cs)) (ordered d)
+  ordered (l_close_first {x = x} {cs} {o} e d) = joined x x cs cs (marks_in o) (same (x ∷ cs)) (ordered d)
+  ordered (l_single {x = x} {cs} {o} h d) = joined x x cs cs (marks_in o) (same (x ∷ cs)) (ordered d)
+  ordered (l_three {x = x} {y} {z} {cs} {o} h e d) = joined x z (y ∷ z ∷ cs) cs (marks_in o) (past x (y ∷ z ∷ cs) (z ∷ cs) (next y (z ∷ cs))) (ordered d)
+  ordered (l_two {x = x} {y} {cs} {o} h e d) = joined x y (y ∷ cs) cs (marks_in o) (next x (y ∷ cs)) (ordered d)
+  ordered (l_one {x = x} {cs} {o} h e d) = joined x x cs cs (marks_in o) (same (x ∷ cs)) (ordered d)
   ordered (l_stray {x = x} {cs} h e) = place_le (x ∷ cs)
   ordered (l_bad {x = x} {cs} h) = place_le (x ∷ cs)
-  ordered (l_opener {x = x} {y} {cs} {o} h e d) = joined _ x y (y ∷ cs) cs (marks_in o) (next x (y ∷ cs)) (ordered d)
-  ordered (l_tag_open {x = x} {y} {cs} {rest} {o} e f h r d) = ran _ x (y ∷ cs) rest (marks_in o) (past x (y ∷ cs) rest (past y cs rest (run_behind r))) (ordered d)
+  ordered (l_opener {x = x} {y} {cs} {o} h e d) = joined x y (y ∷ cs) cs (marks_in o) (next x (y ∷ cs)) (ordered d)
+  ordered (l_tag_open {x = x} {y} {cs} {rest} {o} e f h r d) = ran x (y ∷ cs) rest (marks_in o) (past x (y ∷ cs) rest (past y cs rest (run_behind r))) (ordered d)
   ordered g_end = place_le []
   ordered (g_space {x = x} {cs} {o} h d) = skipped (x ∷ cs) cs (marks_in o) (next x cs) (ordered d)
-  ordered (g_name {x = x} {cs} {rest} {o} e r d) = ran _ x cs rest (marks_in o) (past x cs rest (run_behind r)) (ordered d)
-  ordered (g_equals {x = x} {cs} {o} e d) = joined _ x x cs cs (marks_in o) (same (x ∷ cs)) (ordered d)
-  ordered (g_quoted {x = x} {y} {cs} {rest} {o} h r d) = joined _ x y cs rest (marks_in o) (past x cs (y ∷ rest) (run_behind r)) (ordered d)
+  ordered (g_name {x = x} {cs} {rest} {o} e r d) = ran x cs rest (marks_in o) (past x cs rest (run_behind r)) (ordered d)
+  ordered (g_equals {x = x} {cs} {o} e d) = joined x x cs cs (marks_in o) (same (x ∷ cs)) (ordered d)
+  ordered (g_quoted {x = x} {y} {cs} {rest} {o} h r d) = joined x y cs rest (marks_in o) (past x cs (y ∷ rest) (run_behind r)) (ordered d)
   ordered (g_quoted_open {x = x} {cs} h r) = place_le (x ∷ cs)
-  ordered (g_empty {x = x} {y} {cs} {o} e f d) = joined _ x y (y ∷ cs) cs (marks_in o) (next x (y ∷ cs)) (ordered d)
-  ordered (g_void {x = x} {cs} {o} e d) = joined _ x x cs cs (marks_in o) (same (x ∷ cs)) (ordered d)
-  ordered (g_children {x = x} {cs} {o} e d) = joined _ x x cs cs (marks_in o) (same (x ∷ cs)) (ordered d)
+  ordered (g_empty {x = x} {y} {cs} {o} e f d) = joined x y (y ∷ cs) cs (marks_in o) (next x (y ∷ cs)) (ordered d)
+  ordered (g_void {x = x} {cs} {o} e d) = joined x x cs cs (marks_in o) (same (x ∷ cs)) (ordered d)
+  ordered (g_children {x = x} {cs} {o} e d) = joined x x cs cs (marks_in o) (same (x ∷ cs)) (ordered d)
   ordered (g_bad {x = x} {cs} h) = place_le (x ∷ cs)
   ordered h_end = place_le []
-  ordered (h_text {x = x} {cs} {rest} {o} h r d) = ran _ x cs rest (marks_in o) (past x cs rest (run_behind r)) (ordered d)
+  ordered (h_text {x = x} {cs} {rest} {o} h r d) = ran x cs rest (marks_in o) (past x cs rest (run_behind r)) (ordered d)
   ordered (h_close {x = x} {y} {z} {cs} {rest} {o} e f r g d) =
-      joined _ x z (y ∷ cs) rest (marks_in o) (past x (y ∷ cs) (z ∷ rest) (past y cs (z ∷ rest) (close_behind r))) (ordered d)
+      joined x z (y ∷ cs) rest (marks_in o) (past x (y ∷ cs) (z ∷ rest) (past y cs (z ∷ rest) (close_behind r))) (ordered d)
   ordered (h_close_bad {x = x} {y} {z} {cs} e f r g) = place_le (x ∷ y ∷ cs)
   ordered (h_close_unnamed {x = x} {y} {z} {cs} e f g) = place_le (x ∷ y ∷ z ∷ cs)
   ordered (h_close_open {x = x} {y} {cs} e f r) = place_le (x ∷ y ∷ cs)
@@ -208,7 +209,7 @@ module _ (source : List ℕ) where
   ordered (h_bad {x = x} {cs} e h) = place_le (x ∷ cs)
 
   -- the characters of a source are chained
-  chained : (at : ℕ) (xs : List ℕ) → at + length (encode_utf8_all xs) ≡ length source → (Chained (characters_from at xs)) × (place source (characters_from at xs) ≡ at)
+  pub chained : (at : ℕ) (xs : List ℕ) → at + length (encode_utf8_all xs) ≡ length source → (Chained (characters_from at xs)) × (place source (characters_from at xs) ≡ at)
   chained at [] h = (tt, omega arith)
   chained at (x ∷ xs) h =
       let n = length (encode_utf8 x) in let k = length-append (encode_utf8 x) (encode_utf8_all xs) in

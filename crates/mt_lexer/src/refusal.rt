@@ -1,3 +1,5 @@
+ghost use Rattle.std.specs.Prelude.{◌≡◌};
+
 use mt_tree::Place;
 use std::alloc::AllocError;
 
@@ -23,6 +25,10 @@ pub enum LexRefusal {
 }
 
 impl From<AllocError> for LexRefusal {
+    ghost use Rattle.mt_lexer.specs.declared.refusal.LexRefusal.TheVariants.{NoMemory};
+
+    ghost from_gives = { λ _ e. e ≡ NoMemory };
+
     fn from(_refused: AllocError) -> LexRefusal {
         LexRefusal::NoMemory
     }
