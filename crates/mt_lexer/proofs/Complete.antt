@@ -1,5 +1,5 @@
 -- What is spelled so is read so.
-use Rattle.std.proofs.Common.{◌≡◌, ◌≢◌, ℕ, zero, suc, Bool, true, false, ◌&&◌, ◌||◌, not, List, [], ◌∷◌, length, Option, Some, None, refl, sym, ap, ◌∙◌, subst}
+use Rattle.std.proofs.Common.{◌≡◌, ◌≢◌, ℕ, Bool, true, false, ◌&&◌, not, List, [], ◌∷◌, Option, Some, refl, sym, ap, ◌∙◌}
 use Rattle.std.specs.Prelude.{cond, nat_lt, if◌then◌else◌}
 use Rattle.mt_tree.specs.declared.place.Span.{Span}
 use Rattle.mt_lexer.specs.declared.character.SourceChar.{SourceChar}
@@ -7,9 +7,7 @@ use Rattle.mt_lexer.specs.declared.character.Class.{Class}
 use Rattle.mt_lexer.specs.declared.character.Class.TheVariants as c
 use Rattle.mt_lexer.specs.declared.character.Sign.{Sign}
 use Rattle.mt_lexer.specs.declared.character.Sign.TheVariants as sign
-use Rattle.mt_lexer.specs.declared.token.Kind.{Kind}
 use Rattle.mt_lexer.specs.declared.token.Kind.TheVariants as k
-use Rattle.mt_lexer.specs.declared.mode.Fault.{Fault}
 use Rattle.mt_lexer.specs.declared.mode.Fault.TheVariants as fault
 use Rattle.mt_lexer.specs.declared.mode.Mode.{Mode}
 use Rattle.mt_lexer.specs.declared.mode.Mode.TheVariants as m
@@ -21,14 +19,12 @@ use Rattle.mt_lexer.specs.declared.character.Quote.{Quote}
 use Rattle.mt_lexer.specs.declared.character.Quote.TheVariants as quote
 use Rattle.mt_lexer.specs.declared.part.OpenText.{OpenText}
 use Rattle.mt_lexer.specs.declared.part.OpenEscape.{OpenEscape}
-use Rattle.mt_lexer.specs.declared.part.Part.{Part}
 use Rattle.mt_lexer.specs.declared.part.Part.TheVariants as p
 use Rattle.mt_lexer.specs.Character.{Chars, class_of, sign_class, ascii_class, wide_class, class, first, second, place, between, until, through, text_of}
-use Rattle.mt_lexer.specs.Sign.{is_space, is_letter, is_digit, is_slash, is_equals, is_open_brace, is_greater, starts_name, continues_name, continues_tag, continues_attribute, spoils_number, in_line, in_block, in_child_text, opener_of, opener_kind, quote_of, closes, is_plain, ends_line, in_value, sign_of, is_single, is_three, is_two, is_one, is_stray, begins_nothing, begins_nothing_in_tag, allows_tag}
+use Rattle.mt_lexer.specs.Sign.{is_space, is_slash, is_equals, is_open_brace, is_greater, continues_name, continues_tag, continues_attribute, spoils_number, in_line, in_block, in_child_text, opener_of, opener_kind, in_value, is_three, is_one, begins_nothing_in_tag}
 use Rattle.mt_lexer.specs.Word.{void_tags, is_among, word_kind, before_word, is_number}
-use Rattle.mt_lexer.specs.Escape.{escape}
-use Rattle.mt_lexer.specs.Spelling.{Outcome, finished, token, refused, Run, run_end, run_more, RunOf, TextEnd, closed, broken, InText, text_closes, text_plain, text_escape, text_bad_escape, text_unclosed, Digits, zero_alone, more_digits, CloseName, close_name, opens_tag, Lexes, l_done, l_open, l_space, l_line_comment, l_block_comment, l_block_open, l_word, l_number, l_number_spoiled, l_number_large, l_text, l_text_refused, l_brace, l_close, l_close_first, l_single, l_three, l_two, l_one, l_stray, l_bad, l_opener, l_tag_open, g_end, g_space, g_name, g_equals, g_quoted, g_quoted_open, g_empty, g_void, g_children, g_bad, h_end, h_text, h_close, h_close_bad, h_close_unnamed, h_close_open, h_close_end, h_bad}
-use Rattle.mt_lexer.specs.Machine.{Next, go, emit, stop, done, here, upto, closed as closed_by, step_by, fresh_by, code_by, tag_by, children_by, word_by, number_by, sign_by, equals_by, sign_equals_by, alone, tag_name_by, child_text_by, close_space_by, letter_by, ends, follows, end_mark, lexed}
+use Rattle.mt_lexer.specs.Spelling.{Outcome, token, refused, Run, run_end, run_more, RunOf, TextEnd, closed, broken, InText, text_closes, text_plain, text_escape, text_bad_escape, text_unclosed, Digits, zero_alone, more_digits, CloseName, close_name, opens_tag, Lexes, l_done, l_open, l_space, l_line_comment, l_block_comment, l_block_open, l_word, l_number, l_number_spoiled, l_number_large, l_text, l_text_refused, l_brace, l_close, l_close_first, l_single, l_three, l_two, l_one, l_stray, l_bad, l_opener, l_tag_open, g_end, g_space, g_name, g_equals, g_quoted, g_quoted_open, g_empty, g_void, g_children, g_bad, h_end, h_text, h_close, h_close_bad, h_close_unnamed, h_close_open, h_close_end, h_bad}
+use Rattle.mt_lexer.specs.Machine.{go, emit, stop, here, step_by, fresh_by, word_by, number_by, equals_by, sign_equals_by, alone, close_space_by, letter_by, ends, follows, end_mark, lexed}
 use Rattle.mt_lexer.proofs.Unroll.{head, next, unroll, afresh, afresh_at, again, stopped, at_class, run, run_stops}
 use Rattle.mt_lexer.proofs.Escapes.{after_escape, escapes}
 use Rattle.mt_lexer.proofs.Tables as t

@@ -1,5 +1,5 @@
 -- What the machine reads behind a backslash.
-use Rattle.std.proofs.Common.{◌≡◌, ℕ, zero, suc, Bool, true, false, List, [], ◌∷◌, Option, Some, None, refl, sym, ap, ◌∙◌}
+use Rattle.std.proofs.Common.{◌≡◌, ℕ, zero, suc, Bool, true, false, List, [], ◌∷◌, Option, Some, None, refl, ◌∙◌}
 use Rattle.std.specs.Prelude.{nat_eq, if◌then◌else◌}
 use Rattle.mt_lexer.specs.declared.character.SourceChar.{SourceChar}
 use Rattle.mt_lexer.specs.declared.mode.Fault.TheVariants as fault
@@ -10,7 +10,7 @@ use Rattle.mt_lexer.specs.declared.part.Part.TheVariants as p
 use Rattle.mt_lexer.specs.Character.{Chars}
 use Rattle.mt_lexer.specs.Escape.{is_simple_escape, simple_escape, is_hex, hex_more, is_high, is_low, is_character, digits, code_point, in_braces, low_digits, second_unit, paired, pair_of, of_unit, unicode, escape}
 use Rattle.mt_lexer.specs.Spelling.{Outcome, refused}
-use Rattle.mt_lexer.specs.Machine.{Next, go, stop, unit_done, unit_more, unit_by, code_point_more, code_point_by, low_more, follows, end_mark, lexed}
+use Rattle.mt_lexer.specs.Machine.{Next, go, stop, unit_done, unit_more, unit_by, low_more, follows, end_mark, lexed}
 
 module _ (source : List ℕ) (e : OpenEscape) (ms : List Mode) (b : Before) where
   abbrev bad : Outcome

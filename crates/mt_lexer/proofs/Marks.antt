@@ -1,5 +1,5 @@
 -- One token more.
-use Rattle.std.proofs.Common.{◌≡◌, ℕ, zero, suc, ◌+◌, ◌<◌, List, [], ◌∷◌, ◌++◌, length, get_or, refl, ap, arith}
+use Rattle.std.proofs.Common.{◌≡◌, ℕ, zero, suc, ◌<◌, List, [], ◌∷◌, ◌++◌, length, get_or, refl, ap, arith}
 use Rattle.mt_lexer.specs.declared.token.Token.{Token}
 use Rattle.mt_lexer.specs.Character.{text_of}
 use Rattle.mt_lexer.specs.Tokens.{Mark, marks_of, AllCut}

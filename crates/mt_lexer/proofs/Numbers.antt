@@ -1,6 +1,6 @@
 -- A number, digit by digit, where each that is too large stands as the first one.
-use Rattle.std.proofs.Common.{◌≡◌, ℕ, zero, suc, ◌+◌, ◌-◌, ◌*◌, ◌<◌, ◌≤◌, Bool, true, false, List, [], ◌∷◌, length, get_or, take, refl, sym, ap, ◌∙◌, arith, add-one}
-use Rattle.std.specs.Prelude.{min, nat_le}
+use Rattle.std.proofs.Common.{◌≡◌, ℕ, zero, suc, ◌+◌, ◌<◌, List, [], ◌∷◌, length, get_or, take, refl, sym, ap, ◌∙◌, arith, add-one}
+use Rattle.std.specs.Prelude.{min}
 use Rattle.mt_lexer.specs.Word.{digit_more, number_from}
 
 from_next : (v : ℕ) (xs : List ℕ) (i : ℕ) → i < length xs → number_from v (take (suc i) xs) ≡ digit_more (number_from v (take i xs)) (get_or xs i 0)

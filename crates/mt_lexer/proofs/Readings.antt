@@ -1,5 +1,5 @@
 -- A source has one reading, and it is what the machine gives.
-use Rattle.std.proofs.Common.{◌≡◌, ℕ, ◌+◌, ◌<◌, ◌≤◌, Bool, true, false, List, [], ◌∷◌, ◌++◌, length, take, get_or, Option, Some, None, Result, Ok, Err, refl, sym, ap, ◌∙◌, subst, append-nil, length-append, arith}
+use Rattle.std.proofs.Common.{◌≡◌, ℕ, ◌<◌, ◌≤◌, Bool, List, [], ◌∷◌, ◌++◌, length, Option, None, Result, Ok, Err, refl, sym, ap, ◌∙◌, subst, append-nil, length-append, arith}
 use Rattle.std.specs.Prelude.{nat_le, if◌then◌else◌}
 use Rattle.std.specs.Str.{chars, IsUtf8, IsValidUpTo}
 use Rattle.std.proofs.lemmas.Bool.{le-leb, lt-leb}
@@ -21,7 +21,7 @@ use Rattle.mt_lexer.specs.Character.{characters, characters_from, between}
 use Rattle.mt_lexer.specs.Ending.{front, Ends}
 use Rattle.mt_lexer.specs.Machine.{lexed}
 use Rattle.mt_lexer.specs.Order.{InOrder}
-use Rattle.mt_lexer.specs.Spelling.{Outcome, finished, token, refused}
+use Rattle.mt_lexer.specs.Spelling.{Outcome, finished, refused}
 use Rattle.mt_lexer.specs.Tokens.{Mark, Spelled}
 use Rattle.mt_lexer.specs.Verdict.{marks_in, refusal_in, most_tokens, start_of, refusal_of, ended, verdict, Reads, reads_text, no_text, IsReading}
 use Rattle.mt_lexer.proofs.Complete.{one_outcome}

@@ -1,5 +1,5 @@
 -- What the machine does at a character of each class.
-use Rattle.std.proofs.Common.{◌≡◌, ◌≢◌, ℕ, zero, suc, Bool, true, false, ◌&&◌, ◌||◌, not, List, [], ◌∷◌, Option, Some, None, refl, sym, ap, ◌∙◌}
+use Rattle.std.proofs.Common.{◌≡◌, ◌≢◌, ℕ, Bool, true, false, ◌&&◌, not, List, ◌∷◌, Option, Some, refl, ap}
 use Rattle.std.specs.Prelude.{if◌then◌else◌}
 use Rattle.mt_tree.specs.declared.place.Span.{Span}
 use Rattle.mt_lexer.specs.declared.character.SourceChar.{SourceChar}
@@ -14,14 +14,12 @@ use Rattle.mt_lexer.specs.declared.mode.Mode.TheVariants as m
 use Rattle.mt_lexer.specs.declared.mode.Before.{Before}
 use Rattle.mt_lexer.specs.declared.mode.Before.TheVariants as before
 use Rattle.mt_lexer.specs.declared.mode.Opener.{Opener}
-use Rattle.mt_lexer.specs.declared.mode.Opener.TheVariants as opener
 use Rattle.mt_lexer.specs.declared.character.Quote.{Quote}
 use Rattle.mt_lexer.specs.declared.character.Quote.TheVariants as quote
 use Rattle.mt_lexer.specs.declared.part.OpenText.{OpenText}
-use Rattle.mt_lexer.specs.declared.part.Part.{Part}
 use Rattle.mt_lexer.specs.declared.part.Part.TheVariants as p
-use Rattle.mt_lexer.specs.Sign.{is_space, is_letter, is_digit, is_slash, is_open_brace, is_equals, is_greater, starts_name, continues_tag, in_line, in_block, in_child_text, opener_of, quote_of, closes, is_plain, ends_line, in_value, sign_of, is_single, before_single, is_three, is_two, before_two, allows_tag, is_one, is_stray, begins_nothing, begins_nothing_in_tag, follows_no_less, begins_comment}
-use Rattle.mt_lexer.specs.Machine.{Next, go, emit, stop, upto, code_by, tag_by, children_by, number_by, step_by, text_by, text_closed, sign_by, equals_by, less_by, alone, joined, star_by, block_by, value_by, child_text_by, child_less_by, close_start_by, close_space_by, line_by, tag_slash_by}
+use Rattle.mt_lexer.specs.Sign.{is_space, is_letter, is_digit, is_slash, is_open_brace, is_equals, is_greater, starts_name, in_line, in_child_text, quote_of, closes, is_plain, ends_line, in_value, sign_of, is_single, before_single, is_two, before_two, allows_tag, is_one, is_stray, begins_nothing, follows_no_less}
+use Rattle.mt_lexer.specs.Machine.{go, emit, stop, upto, code_by, tag_by, number_by, step_by, text_by, text_closed, sign_by, equals_by, less_by, alone, joined, value_by, child_text_by, child_less_by, close_start_by, close_space_by, line_by, tag_slash_by}
 
 module _ (source : List ℕ) (x : SourceChar) where
   pub code_space : (y : Class) (q : Option ℕ) (b : Before) (ms : List Mode) → is_space y ≡ true → code_by source x y q b ms ≡ go (m.Code q ∷ ms) b p.Fresh

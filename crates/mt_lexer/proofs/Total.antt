@@ -1,6 +1,6 @@
 -- Every source has an outcome, so what the machine reads is spelled so.
-use Rattle.std.proofs.Common.{◌≡◌, ◌≢◌, ℕ, zero, suc, ◌+◌, ◌≤◌, Bool, true, false, ◌&&◌, ◌||◌, not, List, [], ◌∷◌, length, Option, Some, None, refl, sym, ap, ◌∙◌, subst, arith}
-use Rattle.std.specs.Prelude.{cond, nat_eq, if◌then◌else◌}
+use Rattle.std.proofs.Common.{◌≡◌, ℕ, zero, suc, ◌≤◌, Bool, true, false, ◌&&◌, not, List, [], ◌∷◌, length, Option, Some, None, refl, sym, ap, ◌∙◌, subst, arith}
+use Rattle.std.specs.Prelude.{nat_eq, if◌then◌else◌}
 use Rattle.mt_lexer.specs.declared.character.SourceChar.{SourceChar}
 use Rattle.mt_lexer.specs.declared.character.Class.{Class}
 use Rattle.mt_lexer.specs.declared.character.Class.TheVariants as c
@@ -17,8 +17,8 @@ use Rattle.mt_lexer.specs.declared.mode.Opener.TheVariants as opener
 use Rattle.mt_lexer.specs.declared.character.Quote.{Quote}
 use Rattle.mt_lexer.specs.declared.character.Quote.TheVariants as quote
 use Rattle.mt_lexer.specs.declared.part.Part.TheVariants as p
-use Rattle.mt_lexer.specs.Character.{Chars, class_of, class, first, second, place, between, until, through, text_of}
-use Rattle.mt_lexer.specs.Sign.{is_space, is_letter, is_digit, is_slash, is_equals, is_open_brace, is_greater, starts_name, continues_name, continues_tag, continues_attribute, spoils_number, in_line, in_block, in_child_text, opener_of, opener_kind, quote_of, closes, is_plain, ends_line, in_value, sign_of, is_single, before_single, is_three, is_two, before_two, is_one, is_stray, begins_nothing, begins_nothing_in_tag, follows_no_less, allows_tag}
+use Rattle.mt_lexer.specs.Character.{Chars, class, first, second, place, between, until, through, text_of}
+use Rattle.mt_lexer.specs.Sign.{is_space, is_digit, is_slash, is_equals, is_open_brace, is_greater, starts_name, continues_name, continues_tag, continues_attribute, spoils_number, in_line, in_block, in_child_text, opener_of, opener_kind, quote_of, closes, is_plain, ends_line, in_value, sign_of, is_single, before_single, is_three, is_two, before_two, is_one, is_stray, begins_nothing, begins_nothing_in_tag, follows_no_less, allows_tag}
 use Rattle.mt_lexer.specs.Word.{void_tags, is_among, word_kind, before_word, is_number}
 use Rattle.mt_lexer.specs.Escape.{is_simple_escape, simple_escape, is_hex, hex_more, is_high, is_low, is_character, digits, code_point, in_braces, low_digits, second_unit, paired, pair_of, of_unit, unicode, escape}
 use Rattle.mt_lexer.specs.Spelling.{Outcome, finished, token, refused, Run, run_end, run_more, RunOf, TextEnd, closed, broken, InText, text_closes, text_plain, text_escape, text_bad_escape, text_unclosed, Digits, zero_alone, more_digits, CloseName, close_name, opens_tag, Lexes, l_done, l_open, l_space, l_line_comment, l_block_comment, l_block_open, l_word, l_number, l_number_spoiled, l_number_large, l_text, l_text_refused, l_brace, l_close, l_close_first, l_single, l_three, l_two, l_one, l_stray, l_bad, l_opener, l_tag_open, g_end, g_space, g_name, g_equals, g_quoted, g_quoted_open, g_empty, g_void, g_children, g_bad, h_end, h_text, h_close, h_close_bad, h_close_unnamed, h_close_open, h_close_end, h_bad}

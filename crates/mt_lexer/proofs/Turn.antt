@@ -12,7 +12,7 @@ use Rattle.mt_lexer.specs.declared.part.Part.{Part}
 use Rattle.mt_lexer.specs.Character.{located, characters_from, class_of}
 use Rattle.mt_lexer.specs.Spelling.{Outcome, token}
 use Rattle.mt_lexer.specs.Tokens.{Mark, Spelled, with_marks}
-use Rattle.mt_lexer.specs.Machine.{Next, go, emit, stop, done, step_by, ends, follows, end_mark, lexed}
+use Rattle.mt_lexer.specs.Machine.{Next, step_by, ends, follows, end_mark, lexed}
 use Rattle.mt_lexer.specs.Steps.{then}
 use Rattle.mt_lexer.specs.Ending.{front, Ends}
 

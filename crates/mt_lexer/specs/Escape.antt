@@ -1,5 +1,5 @@
 -- What stands behind a backslash in a text of code: the character that it spells, and the rest of the source.
-use Rattle.std.specs.Prelude.{ℕ, zero, suc, ◌+◌, ◌-◌, ◌*◌, Bool, ◌||◌, ◌&&◌, not, nat_eq, nat_le, min, List, [], ◌∷◌, Option, Some, None, if◌then◌else◌}
+use Rattle.std.specs.Prelude.{ℕ, zero, suc, ◌+◌, ◌-◌, ◌*◌, Bool, ◌||◌, ◌&&◌, not, nat_eq, nat_le, min, [], ◌∷◌, Option, Some, None, if◌then◌else◌}
 use Rattle.mt_lexer.specs.Character.{Chars}
 
 -- `"` `'` `/` `\` and the letters b f n r t v

@@ -17,13 +17,12 @@ use Rattle.mt_lexer.specs.declared.mode.Before.TheVariants as before
 use Rattle.mt_lexer.specs.declared.mode.Opener.{Opener}
 use Rattle.mt_lexer.specs.declared.mode.Opener.TheVariants as opener
 use Rattle.mt_lexer.specs.declared.character.Quote.{Quote}
-use Rattle.mt_lexer.specs.declared.character.Quote.TheVariants as quote
 use Rattle.mt_lexer.specs.declared.part.Part.{Part}
 use Rattle.mt_lexer.specs.declared.part.Part.TheVariants as p
 use Rattle.mt_lexer.specs.declared.part.OpenText.{OpenText}
 use Rattle.mt_lexer.specs.declared.part.OpenEscape.{OpenEscape}
 use Rattle.mt_lexer.specs.Character.{Chars, class, between, text_of}
-use Rattle.mt_lexer.specs.Sign.{is_digit, is_same_quote, continues_name, continues_tag, continues_attribute, spoils_number, opener_kind, before_single, allows_tag}
+use Rattle.mt_lexer.specs.Sign.{is_digit, is_same_quote, continues_name, continues_tag, continues_attribute, spoils_number, opener_kind, allows_tag}
 use Rattle.mt_lexer.specs.Word.{void_tags, is_among, word_kind, before_word, is_number}
 use Rattle.mt_lexer.specs.Escape.{is_simple_escape, is_hex, hex_more, is_high, is_low, is_character}
 use Rattle.mt_lexer.specs.Spelling.{Outcome, finished, token, refused}

@@ -1,13 +1,12 @@
 -- What a step of the lexer does to its tokens and modes.
-use Rattle.std.specs.Prelude.{◌≡◌, ℕ, ◌++◌, Option, Some, None, Result, Ok, Err, List, [], ◌∷◌}
+use Rattle.std.specs.Prelude.{◌≡◌, ℕ, Result, Ok, Err, List, [], ◌∷◌}
 use Rattle.std.specs.declared.alloc.AllocError.{AllocError}
-use Rattle.mt_lexer.specs.declared.mode.Fault.{Fault}
 use Rattle.mt_lexer.specs.declared.mode.Mode.{Mode}
 use Rattle.mt_lexer.specs.declared.mode.Before.{Before}
 use Rattle.mt_lexer.specs.declared.lexer.Flow.{Flow}
 use Rattle.mt_lexer.specs.declared.lexer.Flow.TheVariants as flow
 use Rattle.mt_lexer.specs.declared.lexer.Lexer.{Lexer}
-use Rattle.mt_lexer.specs.Tokens.{Mark, Spelled, with_marks}
+use Rattle.mt_lexer.specs.Tokens.{Mark, with_marks}
 use Rattle.mt_lexer.specs.Machine.{Next, go, emit, stop, done}
 
 -- the tokens that a step emits, in order, and then how it goes on

@@ -4,7 +4,6 @@
 mod character;
 mod children;
 mod code;
-
 mod lexer;
 mod mode;
 mod part;
@@ -13,6 +12,8 @@ mod refusal;
 mod sign;
 mod step;
 mod tag;
+#[cfg(test)]
+mod tests;
 mod text;
 mod token;
 mod word;

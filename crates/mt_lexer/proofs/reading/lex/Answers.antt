@@ -1,4 +1,4 @@
-use Rattle.std.proofs.Common.{◌≡◌, ℕ, Err, sym, ap, ◌∙◌, subst}
+use Rattle.std.proofs.Common.{Err, sym, ap, ◌∙◌, subst}
 use Rattle.mt_tree.specs.declared.place.Place.{Place}
 use Rattle.mt_tree.specs.Place.{place_of}
 use Rattle.mt_lexer.specs.declared.reading.Ending.TheVariants as ending
@@ -27,8 +27,8 @@ pub returns-in-Refused-clause-reading : goal.returns-in-Refused-clause-reading
 returns-in-Refused-clause-reading c =
     subst (λ (r : LexRefusal). IsReading c.args.source.now (Err r)) (sym (c.at.ensures ∙ ap (refusal_of c.in-Refused.fault) c.place.ensures))
     (
-      reads_refusal c.args.source.now c.in-Refused.fault c.in-Refused.at c.read.new.self.tokens.marks c.in-Ok.ensures.cases.1
-      (ends_whole c.args.source.now c.in-Ok.text.now c.in_ok-lexer.lexer (ending.Refused c.in-Refused.fault c.in-Refused.at) c.read.new.self.tokens.marks c.in-Ok.ensures.cases.0 c.in_ok-lexer.ensures (rw c.in-Refused.is at c.in_ok-read.ensures.ends))
+    reads_refusal c.args.source.now c.in-Refused.fault c.in-Refused.at c.read.new.self.tokens.marks c.in-Ok.ensures.cases.1
+    (ends_whole c.args.source.now c.in-Ok.text.now c.in_ok-lexer.lexer (ending.Refused c.in-Refused.fault c.in-Refused.at) c.read.new.self.tokens.marks c.in-Ok.ensures.cases.0 c.in_ok-lexer.ensures (rw c.in-Refused.is at c.in_ok-read.ensures.ends))
     )
 
 pub returns-clause-reading : goal.returns-clause-reading
@@ -36,6 +36,6 @@ returns-clause-reading c =
     subst (λ (place : Place). IsReading c.args.source.now (Err (refusal.TooManyTokens place)))
     (sym (c.place-in-TooManyTokens.ensures ∙ ap (place_of c.args.source.now) c.start_of-at.ensures))
     (
-      reads_many c.args.source.now c.read.new.self.tokens.marks c.in-Ok.ensures.cases.1
-      (ends_whole c.args.source.now c.in-Ok.text.now c.in_ok-lexer.lexer ending.TooManyTokens c.read.new.self.tokens.marks c.in-Ok.ensures.cases.0 c.in_ok-lexer.ensures (rw c.in-TooManyTokens.is at c.in_ok-read.ensures.ends))
+    reads_many c.args.source.now c.read.new.self.tokens.marks c.in-Ok.ensures.cases.1
+    (ends_whole c.args.source.now c.in-Ok.text.now c.in_ok-lexer.lexer ending.TooManyTokens c.read.new.self.tokens.marks c.in-Ok.ensures.cases.0 c.in_ok-lexer.ensures (rw c.in-TooManyTokens.is at c.in_ok-read.ensures.ends))
     )

@@ -1,4 +1,4 @@
-use Rattle.std.proofs.Common.{◌≡◌, ◌<◌, ◌≤◌, ℕ, length, ap, ◌∙◌, inl, inr, arith}
+use Rattle.std.proofs.Common.{◌≡◌, ℕ, ap, ◌∙◌, inl, inr, arith}
 use Rattle.mt_lexer.specs.declared.character.SourceChar.{SourceChar}
 use Rattle.mt_lexer.specs.Character.{between}
 use Rattle.mt_lexer.specs.Machine.{ends, end_mark}
@@ -19,7 +19,7 @@ returns-in-Continue c =
       source = ap (λ (s : Spelled). s.source) c.in_ok-flow.ensures.1;
       ends = (
         elim c.in-Continue.is [ inl w ↦ at_end _ _ _ _ _ _ _ mark (rw w.1 at c.in_ok-flow.ensures) | inr w ↦ at_end _ _ _ _ _ _ _ mark (rw w at c.in_ok-flow.ensures) ],
-        omega (arith, c.len.ensures, c.if-len-gt-MOST_TOKENS.false)
+        omega (arith, c.len.ensures, c.if-len-gt-MOST_TOKENS.false),
       );
     }
 

@@ -1,4 +1,4 @@
-use Rattle.std.proofs.Common.{◌≡◌, ◌≤◌, ◌+◌, ◌∷◌, ◌++◌, [], ℕ, List, length, drop, drop_of_length-le, refl, sym, ap, ◌∙◌, arith}
+use Rattle.std.proofs.Common.{◌≡◌, ◌≤◌, ◌+◌, ℕ, List, length, drop, drop_of_length-le, refl, ap, ◌∙◌, arith}
 use Rattle.std.proofs.lemmas.Iterator.{YieldsList-from_chars}
 use Rattle.std.proofs.lemmas.Iterator.Consumers.{YieldsList-turn, YieldsList-end}
 use Rattle.std.proofs.lemmas.List.{length_push}
@@ -29,11 +29,10 @@ new-here-requires c =
 
 pub returns-then-len-gt-MOST_TOKENS-clause-ends : goal.returns-then-len-gt-MOST_TOKENS-clause-ends
 returns-then-len-gt-MOST_TOKENS-clause-ends c =
-    let t = YieldsList-turn (YieldsList-from_chars c.args.text.now c.utf8.text cc) c.loop-c.yielded _ c.loop-c.yielded_by _ _ c.in-Some.c c.in-Some.is c.next.ensures.steps in
-    (
+    let t = YieldsList-turn (YieldsList-from_chars c.args.text.now c.utf8.text cc) c.loop-c.yielded _ c.loop-c.yielded_by _ _ c.in-Some.c c.in-Some.is c.next.ensures.steps in (
       follows (lexed c.args.text.now (characters_from (c.loop-c.at + length (encode_utf8 c.in-Some.c)) (drop (length c.loop-c.yielded + 1) (chars c.args.text.now)))) (flow_of c.in_ok-flow.flow c.step.new.self.modes c.step.new.self.before),
       one_turn c.args.text.now _ _ c.loop-c.invariant.source _ _ _ _ _ (chars c.args.text.now) c.loop-c.at (length c.loop-c.yielded) c.in-Some.c _ _ t c.new-here.ensures c.class_of.ensures c.in_ok-flow.ensures c.loop-c.invariant.so_far,
-      omega (arith, c.len.ensures, c.if-len-gt-MOST_TOKENS.true)
+      omega (arith, c.len.ensures, c.if-len-gt-MOST_TOKENS.true),
     )
 
 pub returns-in-Refuse-clause-ends : goal.returns-in-Refuse-clause-ends

@@ -1,4 +1,4 @@
-use Rattle.std.proofs.Common.{◌≡◌, ◌∷◌, [], List, ap, sym, ◌∙◌}
+use Rattle.std.proofs.Common.{◌∷◌, [], List, ap, sym, ◌∙◌}
 use Rattle.mt_lexer.specs.Character.{text_of}
 use Rattle.mt_lexer.specs.Tokens.{Mark, Spelled, with_marks}
 use Rattle.mt_lexer.proofs.Marks.{AllCut-push, marks_of-push}

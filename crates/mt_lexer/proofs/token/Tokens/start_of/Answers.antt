@@ -1,4 +1,4 @@
-use Rattle.std.proofs.Common.{◌≡◌, ◌<◌, length, ap, sym, ◌∙◌, vec_len, arith, rules}
+use Rattle.std.proofs.Common.{◌≡◌, ◌<◌, length, ap, ◌∙◌, vec_len, arith, rules}
 use Rattle.mt_lexer.specs.Tokens.{Spelled, marks_of}
 use Rattle.mt_lexer.specs.Verdict.{start_of}
 use Rattle.mt_lexer.proofs.Marks.{length-marks_of, start_of-marks_of}
