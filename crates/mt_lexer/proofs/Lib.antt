@@ -1,7 +1,9 @@
 pub mod Unroll
 pub mod Escapes
 pub mod Tables
+pub mod Parts
 pub mod Complete
+pub mod Runs
 pub mod Total
 pub mod Marks
 pub mod Numbers
