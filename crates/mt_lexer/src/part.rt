@@ -32,7 +32,8 @@ pub enum Part {
     Escape(OpenEscape),
     /// Behind `\u`.
     Unicode(OpenEscape),
-    /// Among the four digits of a unit: how many are still to come after the next one, and the value so far.
+    /// Among the four digits of a unit: how many are still to come after the next one, and the
+    /// value so far.
     Unit(OpenEscape, u8, u32),
     /// Behind `\u{`.
     CodePointStart(OpenEscape),

@@ -30,7 +30,9 @@ pub enum Ending {
 
 /// The tokens of a source of at most 1,048,576 bytes, or its first refusal.
 ///
-/// Its texts are slices of the source. The cost grows with the length of the source alone.
+/// It is `Ok` exactly where the source is UTF-8 that has a spelling of at most 200,000 tokens, and
+/// then gives these tokens. [`LexRefusal`] says when each refusal comes. The bytes are read once,
+/// from the front, and the cost grows with their number alone.
 pub fn lex(alloc: Global, source: &[u8]) -> Result<Tokens<'_>, LexRefusal>
     requires small { length source.now ≤ 1048576 }
     ensures reading { IsReading source.now result }

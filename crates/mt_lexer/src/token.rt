@@ -37,11 +37,13 @@ pub enum Kind {
 #[derive(Clone, Copy, Debug)]
 pub struct Token<'a> {
     pub kind: Kind,
+    /// The bytes of the source where the token stands.
     pub text: &'a [u8],
+    /// Where it stands, in bytes of the source.
     pub span: Span,
 }
 
-/// The tokens of a source, in order.
+/// A source with its tokens in order. Only [`lex`](crate::lex) makes one.
 #[derive(Drop)]
 pub struct Tokens<'a> {
     source: &'a [u8],
@@ -64,14 +66,15 @@ impl<'a> Tokens<'a> {
     ghost use Rattle.mt_lexer.specs.Character.{text_of};
     ghost use Rattle.mt_lexer.specs.Verdict.{start_of};
 
-    /// The whole source.
+    /// The whole source. It takes no memory.
     pub fn source(&self) -> &'a [u8]
         ensures { result.now ≡ self.now.source }
     {
         self.source
     }
 
-    /// The tokens in the order of the source.
+    /// The tokens in the order of the source. The text of each is a slice of the source. It takes
+    /// no memory.
     pub fn list(&self) -> &[Token<'a>]
         ensures marks { marks_of result.now ≡ self.now.marks }
         ensures texts { AllCut self.now.source result.now }
