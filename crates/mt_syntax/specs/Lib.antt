@@ -1,3 +1,11 @@
+pub mod Depth
+pub mod Derivation
 pub mod Fold
+pub mod Gathering
+pub mod Names
+pub mod Numbering
+pub mod Shape
 pub mod Sort
 pub mod Substitution
+pub mod Tiers
+pub mod Whole
