@@ -1,6 +1,6 @@
 -- Which programs the grammar derives from a source. Nothing is said of the places of the nodes.
-use Rattle.std.specs.Prelude.{ℕ, ◌≡◌, Bool, true, List, map, length}
-use Rattle.std.specs.List.{All, list_all, range_with_len}
+use Rattle.std.specs.Prelude.{◌≡◌, true, map, length}
+use Rattle.std.specs.List.{All, list_all}
 use Rattle.mt_syntax.specs.Numbering.{AreNumbers, dollars_of, tildes_of}
 use Rattle.mt_syntax.specs.Shape.{is_shaped, is_shaped_expr}
 use Rattle.mt_syntax.specs.Tiers.{is_client_code, is_server_code, is_server_expr}

@@ -1,9 +1,16 @@
+pub mod CodeText
+pub mod Codes
+pub mod Data
+pub mod DataLimits
+pub mod DataText
 pub mod Depth
 pub mod Derivation
 pub mod Fold
 pub mod Gathering
 pub mod Names
 pub mod Numbering
+pub mod PageText
+pub mod Pages
 pub mod Shape
 pub mod Sort
 pub mod Substitution

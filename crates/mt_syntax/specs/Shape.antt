@@ -1,11 +1,11 @@
 -- Which trees have the form that the grammar gives, whatever stands where a tilde, a dollar or a value does, and wherever
 -- their nodes stand in a source.
-use Rattle.std.specs.Prelude.{ℕ, Bool, true, false, not, ◌&&◌, ◌||◌, ◌==◌, ◌^◌, nat_lt, ℤ, pos, negsuc, List, [], ◌∷◌, map, Option, None, Some}
+use Rattle.std.specs.Prelude.{ℕ, Bool, true, false, not, ◌&&◌, ◌==◌, ◌^◌, nat_lt, ℤ, pos, negsuc, List, [], ◌∷◌, Option, None, Some}
 use Rattle.std.specs.List.{list_all}
 use Rattle.std.specs.Str.{all_scalars, encode_utf8_all}
 use Rattle.mt_tree.specs.Tables.{is_void_tag}
 use Rattle.mt_syntax.specs.Names.{is_name, is_tag_name, is_attribute_name}
-use Rattle.mt_syntax.specs.Fold.{Every, ExprKindLayer, ForStartLayer, MarkupChildLayer, MarkupValueLayer, StmtKindLayer, DeclLayer, FunctionLayer, MarkupLayer, MarkupAttributeLayer, PropLayer, Steps, on_expr, on_stmt}
+use Rattle.mt_syntax.specs.Fold.{Every, ExprKindLayer, ForStartLayer, MarkupChildLayer, MarkupValueLayer, StmtKindLayer, DeclLayer, FunctionLayer, MarkupLayer, Steps, on_expr, on_stmt}
 use Rattle.mt_syntax.specs.declared.tree.Mark.{Mark}
 use Rattle.mt_syntax.specs.declared.tree.Binary.{Binary}
 use Rattle.mt_syntax.specs.declared.tree.Binary.TheVariants as binary
@@ -17,14 +17,14 @@ use Rattle.mt_syntax.specs.declared.tree.ExprKind.TheOpen.{ExprKind-F, ForStart-
 
 -- what a node has to know of a part
 pub data Look : Type 0 where
-  Target : Look       -- a name or an `Index`
+  Target : Look  -- a name or an `Index`
   Tilde : Look
   Element : Look
   Block : Look
   Declaration : Look  -- of a function or a service
-  Valued : Look       -- a name that is declared with a value
-  Named : Look        -- a function with a name
-  Characters : Look   -- a text of an element
+  Valued : Look  -- a name that is declared with a value
+  Named : Look  -- a function with a name
+  Characters : Look  -- a text of an element
   Other : Look
 
 abbrev pub is_target : Look → Bool
@@ -182,19 +182,20 @@ stmt_kind_part StmtKind-F.Empty = part Look.Other true
 abbrev pub decl_part : DeclLayer (Every Part) → Part
 decl_part d = part (value_look d.value) (mark_fits d.name && optional_fits d.value)
   where
-  value_look : Option Part → Look
-  value_look None = Look.Other
-  value_look (Some p) = Look.Valued
+    value_look : Option Part → Look
+    value_look None = Look.Other
+    value_look (Some p) = Look.Valued
 
 abbrev pub function_part : FunctionLayer (Every Part) → Part
 function_part f = part (name_look f.name) (name_fits f.name && list_all mark_fits f.parameters && all_fit f.body)
   where
-  name_look : Option Mark → Look
-  name_look None = Look.Other
-  name_look (Some m) = Look.Named
-  name_fits : Option Mark → Bool
-  name_fits None = true
-  name_fits (Some m) = mark_fits m
+    name_look : Option Mark → Look
+    name_look None = Look.Other
+    name_look (Some m) = Look.Named
+
+    name_fits : Option Mark → Bool
+    name_fits None = true
+    name_fits (Some m) = mark_fits m
 
 -- an element whose tag is void has no children
 abbrev pub markup_part : MarkupLayer (Every Part) → Part

@@ -21,7 +21,11 @@ pub(crate) fn expr(alloc: Global, from: &Expr, values: &[Data]) -> Result<Expr, 
 }
 
 #[cycle(substitution)]
-pub(crate) fn expr_kind(alloc: Global, from: &ExprKind, values: &[Data]) -> Result<ExprKind, NoMemory>
+pub(crate) fn expr_kind(
+    alloc: Global,
+    from: &ExprKind,
+    values: &[Data],
+) -> Result<ExprKind, NoMemory>
     ensures { IfOk result (λ k. k ≡ subst_expr_kind values.now from.now) }
 {
     match from {
@@ -74,7 +78,11 @@ pub(crate) fn expr_kind(alloc: Global, from: &ExprKind, values: &[Data]) -> Resu
 }
 
 #[cycle(substitution)]
-pub(crate) fn exprs(alloc: Global, items: &Row<Expr>, values: &[Data]) -> Result<Row<Expr>, NoMemory>
+pub(crate) fn exprs(
+    alloc: Global,
+    items: &Row<Expr>,
+    values: &[Data],
+) -> Result<Row<Expr>, NoMemory>
     ensures { IfOk result (λ row. row ≡ map (subst_expr values.now) items.now) }
 {
     let mut made = Vec::new(alloc);
@@ -96,7 +104,11 @@ pub(crate) fn prop(alloc: Global, from: &Prop, values: &[Data]) -> Result<Prop, 
 }
 
 #[cycle(substitution)]
-pub(crate) fn props(alloc: Global, items: &Row<Prop>, values: &[Data]) -> Result<Row<Prop>, NoMemory>
+pub(crate) fn props(
+    alloc: Global,
+    items: &Row<Prop>,
+    values: &[Data],
+) -> Result<Row<Prop>, NoMemory>
     ensures { IfOk result (λ row. row ≡ map (subst_prop values.now) items.now) }
 {
     let mut made = Vec::new(alloc);
@@ -107,7 +119,11 @@ pub(crate) fn props(alloc: Global, items: &Row<Prop>, values: &[Data]) -> Result
 }
 
 #[cycle(substitution)]
-pub(crate) fn function(alloc: Global, from: &Function, values: &[Data]) -> Result<Function, NoMemory>
+pub(crate) fn function(
+    alloc: Global,
+    from: &Function,
+    values: &[Data],
+) -> Result<Function, NoMemory>
     ensures { IfOk result (λ f. f ≡ subst_function values.now from.now) }
 {
     let name = optional_mark(&from.name)?;
@@ -120,7 +136,11 @@ pub(crate) fn function(alloc: Global, from: &Function, values: &[Data]) -> Resul
 }
 
 #[cycle(substitution)]
-pub(crate) fn value(alloc: Global, from: &Option<Expr>, values: &[Data]) -> Result<Option<Expr>, NoMemory>
+pub(crate) fn value(
+    alloc: Global,
+    from: &Option<Expr>,
+    values: &[Data],
+) -> Result<Option<Expr>, NoMemory>
     ensures { IfOk result (λ e. e ≡ option_map (subst_expr values.now) from.now) }
 {
     match from {

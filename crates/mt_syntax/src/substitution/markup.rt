@@ -67,7 +67,11 @@ pub(crate) fn attribute_value(
 }
 
 #[cycle(substitution)]
-pub(crate) fn child(alloc: Global, from: &MarkupChild, values: &[Data]) -> Result<MarkupChild, NoMemory>
+pub(crate) fn child(
+    alloc: Global,
+    from: &MarkupChild,
+    values: &[Data],
+) -> Result<MarkupChild, NoMemory>
     ensures { IfOk result (λ c. c ≡ subst_markup_child values.now from.now) }
 {
     match from {

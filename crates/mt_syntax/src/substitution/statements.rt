@@ -19,7 +19,11 @@ pub(crate) fn stmt(alloc: Global, from: &Stmt, values: &[Data]) -> Result<Stmt, 
 }
 
 #[cycle(substitution)]
-pub(crate) fn stmt_kind(alloc: Global, from: &StmtKind, values: &[Data]) -> Result<StmtKind, NoMemory>
+pub(crate) fn stmt_kind(
+    alloc: Global,
+    from: &StmtKind,
+    values: &[Data],
+) -> Result<StmtKind, NoMemory>
     ensures { IfOk result (λ k. k ≡ subst_stmt_kind values.now from.now) }
 {
     match from {
@@ -57,7 +61,11 @@ pub(crate) fn stmt_kind(alloc: Global, from: &StmtKind, values: &[Data]) -> Resu
 }
 
 #[cycle(substitution)]
-pub(crate) fn stmts(alloc: Global, items: &Row<Stmt>, values: &[Data]) -> Result<Row<Stmt>, NoMemory>
+pub(crate) fn stmts(
+    alloc: Global,
+    items: &Row<Stmt>,
+    values: &[Data],
+) -> Result<Row<Stmt>, NoMemory>
     ensures { IfOk result (λ row. row ≡ map (subst_stmt values.now) items.now) }
 {
     let mut made = Vec::new(alloc);
@@ -68,7 +76,11 @@ pub(crate) fn stmts(alloc: Global, items: &Row<Stmt>, values: &[Data]) -> Result
 }
 
 #[cycle(substitution)]
-pub(crate) fn boxed_stmt(alloc: Global, from: &Boxed<Stmt>, values: &[Data]) -> Result<Boxed<Stmt>, NoMemory>
+pub(crate) fn boxed_stmt(
+    alloc: Global,
+    from: &Boxed<Stmt>,
+    values: &[Data],
+) -> Result<Boxed<Stmt>, NoMemory>
     ensures { IfOk result (λ s. s ≡ subst_stmt values.now from.now) }
 {
     let made = stmt(alloc, from.get(), values)?;
@@ -115,7 +127,11 @@ pub(crate) fn decl(alloc: Global, from: &Decl, values: &[Data]) -> Result<Decl, 
 }
 
 #[cycle(substitution)]
-pub(crate) fn decls(alloc: Global, items: &Row<Decl>, values: &[Data]) -> Result<Row<Decl>, NoMemory>
+pub(crate) fn decls(
+    alloc: Global,
+    items: &Row<Decl>,
+    values: &[Data],
+) -> Result<Row<Decl>, NoMemory>
     ensures { IfOk result (λ row. row ≡ map (subst_decl values.now) items.now) }
 {
     let mut made = Vec::new(alloc);
