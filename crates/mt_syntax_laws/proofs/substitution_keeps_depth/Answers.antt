@@ -1,0 +1,5 @@
+use Rattle.mt_syntax_laws.specs.Kept.{depth_kept}
+use Rattle.mt_syntax_laws.proofs.substitution_keeps_depth.Goals as goal
+
+pub returns : goal.returns
+returns c values body = depth_kept values body
