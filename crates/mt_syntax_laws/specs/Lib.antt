@@ -8,3 +8,4 @@ pub mod Layers
 pub mod Nowhere
 pub mod Related
 pub mod Substituted
+pub mod Texts

@@ -8,18 +8,20 @@
 //! law that any result on a substituted tree is a result on the tree itself (`Substituted`). Layers above use them for laws of
 //! their own.
 #![tactic(auto)]
-ghost use Rattle.std.specs.Prelude.{◌≡◌, List, length, true};
+ghost use Rattle.std.specs.Prelude.{◌≡◌, ℕ, List, [], flat_map, length, true};
 ghost use Rattle.std.specs.List.{list_all};
 ghost use Rattle.mt_tree.specs.declared.data.Data.{Data};
 ghost use Rattle.mt_syntax.specs.declared.program.Tilde.{Tilde};
 ghost use Rattle.mt_syntax.specs.declared.tree.Stmt.{Stmt};
+ghost use Rattle.mt_syntax.specs.CodeText.{code_text, writing_code};
 ghost use Rattle.mt_syntax.specs.Codes.{IsCode, is_plain};
 ghost use Rattle.mt_syntax.specs.Data.{is_data};
 ghost use Rattle.mt_syntax.specs.Depth.{depth_of};
 ghost use Rattle.mt_syntax.specs.Derivation.{IsDerivedTilde};
+ghost use Rattle.mt_syntax.specs.Fold.{Every, on_stmt};
 ghost use Rattle.mt_syntax.specs.Numbering.{values_of};
 ghost use Rattle.mt_syntax.specs.Shape.{is_shaped};
-ghost use Rattle.mt_syntax.specs.Substitution.{subst};
+ghost use Rattle.mt_syntax.specs.Substitution.{subst, substituting};
 ghost use Rattle.mt_syntax_laws.specs.Injection.{blanked};
 
 /// Substitution keeps the depth of a body, whatever it puts in.
@@ -49,5 +51,17 @@ pub fn substituted_tilde_is_code()
 /// Two codes of one body are the same, but for the data of their values.
 pub fn only_values_differ()
     ensures { (ds es : List Data) (body : List Stmt) → length ds ≡ length es → blanked (subst ds body) ≡ blanked (subst es body) }
+{
+}
+
+/// The text of a substituted body is written from the body and the values, without making the substituted body.
+pub fn text_of_substituted_body()
+    ensures { (values : List Data) (body : List Stmt) → code_text (subst values body) ≡ flat_map (on_stmt (substituting (Every (List ℕ)) values writing_code)) body }
+{
+}
+
+/// A body in which nothing is put has its own text, so a writer of tildes writes codes as well.
+pub fn text_without_values()
+    ensures { (body : List Stmt) → code_text (subst [] body) ≡ code_text body }
 {
 }
