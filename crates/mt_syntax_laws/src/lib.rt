@@ -10,12 +10,14 @@
 #![tactic(auto)]
 ghost use Rattle.std.specs.Prelude.{◌≡◌, ℕ, List, [], flat_map, length, true};
 ghost use Rattle.std.specs.List.{list_all};
+ghost use Rattle.std.specs.Str.{IsUtf8};
 ghost use Rattle.mt_tree.specs.declared.data.Data.{Data};
 ghost use Rattle.mt_syntax.specs.declared.program.Tilde.{Tilde};
 ghost use Rattle.mt_syntax.specs.declared.tree.Stmt.{Stmt};
 ghost use Rattle.mt_syntax.specs.CodeText.{code_text, writing_code};
 ghost use Rattle.mt_syntax.specs.Codes.{IsCode, is_plain};
 ghost use Rattle.mt_syntax.specs.Data.{is_data};
+ghost use Rattle.mt_syntax.specs.DataText.{data_text};
 ghost use Rattle.mt_syntax.specs.Depth.{depth_of};
 ghost use Rattle.mt_syntax.specs.Derivation.{IsDerivedTilde};
 ghost use Rattle.mt_syntax.specs.Fold.{Every, on_stmt};
@@ -63,5 +65,11 @@ pub fn text_of_substituted_body()
 /// A body in which nothing is put has its own text, so a writer of tildes writes codes as well.
 pub fn text_without_values()
     ensures { (body : List Stmt) → code_text (subst [] body) ≡ code_text body }
+{
+}
+
+/// The tagged JSON of data is UTF-8.
+pub fn data_text_is_utf8()
+    ensures { (d : Data) → is_data d ≡ true → IsUtf8 (data_text d) }
 {
 }
