@@ -3,26 +3,23 @@ use Rattle.std.proofs.Common.{◌≡◌, refl, List, [], ◌∷◌, Option, None
 use Rattle.std.specs.Prelude.{codes, ℕ}
 use lib.Utf8
 use Rattle.std.specs.Str as texts
-use Rattle.mt_tree.specs.declared.data.Data.{Data}
 use Rattle.mt_tree.specs.declared.data.Data.TheVariants as «data»
 use Rattle.mt_tree.specs.declared.data.Data.TheFolds as data_folds
-use Rattle.mt_tree.specs.declared.data.Entry.{Entry, roll-Entry}
-use Rattle.mt_tree.specs.declared.html.Html.{Html, roll-Html}
-use Rattle.mt_tree.specs.declared.html.Element.{Element, roll-Element}
-use Rattle.mt_tree.specs.declared.html.Attribute.{Attribute}
-use Rattle.mt_tree.specs.declared.html.AttributeValue.TheVariants.{Plain, Handler}
+use Rattle.mt_tree.specs.declared.data.Entry.{roll-Entry}
+use Rattle.mt_tree.specs.declared.html.Html.{roll-Html}
+use Rattle.mt_tree.specs.declared.html.Element.{roll-Element}
+use Rattle.mt_tree.specs.declared.html.AttributeValue.TheVariants.{Plain}
 use Rattle.mt_tree.specs.declared.html.Html.TheOpen.{Html-F}
 use Rattle.mt_tree.specs.declared.html.Html.TheFolds as html_folds
 use Rattle.mt_syntax.specs.declared.tree.ExprKind.TheFolds as folds
-use Rattle.mt_syntax.specs.declared.tree.ExprKind.{ExprKind, roll-ExprKind}
-use Rattle.mt_syntax.specs.declared.tree.StmtKind.{StmtKind, roll-StmtKind}
-use Rattle.mt_syntax.specs.declared.tree.ForStart.{ForStart, roll-ForStart}
+use Rattle.mt_syntax.specs.declared.tree.ExprKind.{roll-ExprKind}
+use Rattle.mt_syntax.specs.declared.tree.StmtKind.{roll-StmtKind}
+use Rattle.mt_syntax.specs.declared.tree.ForStart.{roll-ForStart}
 use Rattle.mt_syntax.specs.declared.tree.Expr.{Expr, roll-Expr}
 use Rattle.mt_syntax.specs.declared.tree.Stmt.{Stmt, roll-Stmt}
-use Rattle.mt_syntax.specs.declared.tree.Function.{Function, roll-Function}
+use Rattle.mt_syntax.specs.declared.tree.Function.{roll-Function}
 use Rattle.mt_syntax.specs.declared.tree.Decl.{Decl, roll-Decl}
-use Rattle.mt_syntax.specs.declared.tree.Prop.{Prop, roll-Prop}
-use Rattle.mt_syntax.specs.declared.tree.Markup.{Markup, roll-Markup}
+use Rattle.mt_syntax.specs.declared.tree.Markup.{roll-Markup}
 use Rattle.mt_syntax.specs.declared.tree.MarkupChild.{MarkupChild, roll-MarkupChild}
 use Rattle.mt_syntax.specs.declared.tree.Mark.{Mark}
 use Rattle.mt_syntax.specs.declared.tree.VarKind.TheVariants as word
@@ -31,7 +28,6 @@ use Rattle.mt_syntax.specs.declared.tree.StepKind.TheVariants as steps
 use Rattle.mt_syntax.specs.declared.tree.ExprKind.TheOpen.{ExprKind-F, StmtKind-F, ForStart-F, MarkupChild-F}
 use Rattle.mt_syntax.specs.declared.program.Code.{Code}
 use Rattle.mt_syntax.specs.declared.program.Program.{Program}
-use Rattle.mt_syntax.specs.declared.program.Tilde.{Tilde}
 use Rattle.mt_syntax.specs.Fold.{ExprKindLayer, StmtKindLayer, Tree}
 use Rattle.mt_syntax.specs.Substitution.{nowhere}
 use Rattle.mt_syntax.specs.Names as names
@@ -43,10 +39,9 @@ use Rattle.mt_syntax.specs.CodeText.{literal, code_text}
 use Rattle.mt_syntax.specs.PageText as page_texts
 use Rattle.mt_syntax.specs.PageText.{page_text}
 use Rattle.mt_syntax.specs.Depth.{depth_of, depth_of_program}
-use Rattle.mt_syntax.specs.Numbering.{dollars_of, tildes_of}
+use Rattle.mt_syntax.specs.Numbering.{tildes_of}
 use Rattle.mt_syntax.specs.Shape.{is_shaped}
 use Rattle.mt_syntax.specs.Tiers.{is_client_code, is_server_code}
-use Rattle.mt_syntax.specs.Codes.{is_filled, is_plain, stands_nowhere}
 
 abbrev expr : ExprKindLayer Tree → Expr
 expr kind = roll-Expr (record { place = nowhere; kind = roll-ExprKind kind })

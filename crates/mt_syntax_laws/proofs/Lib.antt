@@ -1,2 +1,13 @@
+pub mod Client
 pub mod Examples
+pub mod Filled
+pub mod Gathered
+pub mod Holes
+pub mod Injection
+pub mod Kept
+pub mod Layers
+pub mod Nowhere
+pub mod Related
+pub mod Substituted
+pub mod Texts
 pub mod Utf8

@@ -1,13 +1,13 @@
 -- The text of data is UTF-8.
-use Rattle.std.proofs.Common.{◌≡◌, ℕ, zero, suc, ◌+◌, ◌/◌, ◌%◌, ◌<◌, ◌≤◌, ◌^◌, ℤ, pos, negsuc, List, [], ◌∷◌, ◌++◌, map, Bool, true, false, cond, ◌&&◌, nat_lt, refl, sym, ap, ◌∙◌, subst, get_or, arith, rules}
+use Rattle.std.proofs.Common.{◌≡◌, ℕ, zero, suc, ◌/◌, ◌%◌, ◌<◌, ◌^◌, ℤ, pos, negsuc, List, [], ◌∷◌, ◌++◌, map, Bool, true, false, cond, ◌&&◌, nat_lt, refl, sym, ap, ◌∙◌, subst, arith}
 use lib.Utf8
-use Rattle.std.specs.Prelude.{codes, flat_map, if◌then◌else◌}
+use Rattle.std.specs.Prelude.{codes, flat_map}
 use Rattle.std.specs.List.{list_all}
 use Rattle.std.specs.Str.{IsUtf8, IsAscii, all_scalars}
 use lib.Signed.{mag}
 use Rattle.std.specs.Char.{digit_char, IsScalar}
 use Rattle.std.specs.Fmt.{signed_decimal}
-use Rattle.std.proofs.lemmas.Bool.{and_parts, cases_Bool, ltb-true}
+use Rattle.std.proofs.lemmas.Bool.{and_parts, ltb-true}
 use Rattle.std.proofs.lemmas.Bool.Decides.{nat_tests}
 use Rattle.std.proofs.lemmas.Fmt.{IsAscii-signed}
 use Rattle.std.proofs.lemmas.Str.{IsUtf8-append, IsUtf8-nil, IsUtf8-from_ascii, IsUtf8-encode}
@@ -23,10 +23,10 @@ use Rattle.mt_syntax.specs.DataText.{comma_if, data_step, data_text, entry_step,
 pair_utf8 : (x y : ℕ) → x < 128 → y < 128 → IsUtf8 (x ∷ y ∷ [])
 pair_utf8 x y p q = IsUtf8-from_ascii (x ∷ y ∷ []) below
   where
-  below : IsAscii (x ∷ y ∷ [])
-  below zero = p
-  below (suc zero) = q
-  below (suc (suc i)) = omega arith
+    below : IsAscii (x ∷ y ∷ [])
+    below zero = p
+    below (suc zero) = q
+    below (suc (suc i)) = omega arith
 
 letter_below : (c : ℕ) → escape_letter c < 128
 letter_below c = grind (arith, nat_tests)
@@ -38,14 +38,14 @@ escaped_utf8 : (c : ℕ) → IsScalar c → IsUtf8 (escaped c)
 unfolding texts.escaped
 escaped_utf8 c s = by (nat_lt 0 (escape_letter c)) (nat_lt c 32) refl
   where
-  by : (p q : Bool) → nat_lt c 32 ≡ q → IsUtf8 (cond p (92 ∷ escape_letter c ∷ []) (cond q (92 ∷ 117 ∷ 48 ∷ 48 ∷ digit_char (c / 16) ∷ digit_char (c % 16) ∷ []) (lib.Utf8.encode c)))
-  by true q e = pair_utf8 92 (escape_letter c) (omega arith) (letter_below c)
-  by false true e =
-      let h : c < 32 = ltb-true c 32 e in
-      IsUtf8-append (92 ∷ 117 ∷ []) (48 ∷ 48 ∷ digit_char (c / 16) ∷ digit_char (c % 16) ∷ []) (pair_utf8 92 117 (omega arith) (omega arith))
-      (IsUtf8-append (48 ∷ 48 ∷ []) (digit_char (c / 16) ∷ digit_char (c % 16) ∷ []) (pair_utf8 48 48 (omega arith) (omega arith))
-      (pair_utf8 (digit_char (c / 16)) (digit_char (c % 16)) (digit_below (c / 16) (omega (arith, h))) (digit_below (c % 16) (omega arith))))
-  by false false e = IsUtf8-encode c s
+    by : (p q : Bool) → nat_lt c 32 ≡ q → IsUtf8 (cond p (92 ∷ escape_letter c ∷ []) (cond q (92 ∷ 117 ∷ 48 ∷ 48 ∷ digit_char (c / 16) ∷ digit_char (c % 16) ∷ []) (lib.Utf8.encode c)))
+    by true q e = pair_utf8 92 (escape_letter c) (omega arith) (letter_below c)
+    by false true e =
+        let h : c < 32 = ltb-true c 32 e in
+        IsUtf8-append (92 ∷ 117 ∷ []) (48 ∷ 48 ∷ digit_char (c / 16) ∷ digit_char (c % 16) ∷ []) (pair_utf8 92 117 (omega arith) (omega arith))
+        (IsUtf8-append (48 ∷ 48 ∷ []) (digit_char (c / 16) ∷ digit_char (c % 16) ∷ []) (pair_utf8 48 48 (omega arith) (omega arith))
+        (pair_utf8 (digit_char (c / 16)) (digit_char (c % 16)) (digit_below (c / 16) (omega (arith, h))) (digit_below (c % 16) (omega arith))))
+    by false false e = IsUtf8-encode c s
 
 all_escaped_utf8 : (cs : List ℕ) → all_scalars cs ≡ true → IsUtf8 (flat_map escaped cs)
 all_escaped_utf8 [] e = IsUtf8-nil
@@ -59,10 +59,10 @@ AreAscii = list_all (λ b. nat_lt b 128)
 ascii_utf8 : (bs : List ℕ) → AreAscii bs ≡ true → IsUtf8 bs
 ascii_utf8 bs e = IsUtf8-from_ascii bs (each bs e)
   where
-  each : (bs : List ℕ) → AreAscii bs ≡ true → IsAscii bs
-  each [] e i = omega arith
-  each (b ∷ bs) e zero = ltb-true b 128 (and_parts (nat_lt b 128) (AreAscii bs) e).0
-  each (b ∷ bs) e (suc i) = each bs (and_parts (nat_lt b 128) (AreAscii bs) e).1 i
+    each : (bs : List ℕ) → AreAscii bs ≡ true → IsAscii bs
+    each [] e i = omega arith
+    each (b ∷ bs) e zero = ltb-true b 128 (and_parts (nat_lt b 128) (AreAscii bs) e).0
+    each (b ∷ bs) e (suc i) = each bs (and_parts (nat_lt b 128) (AreAscii bs) e).1 i
 
 -- a text between ASCII bytes
 between_utf8 : (front back bs : List ℕ) → AreAscii front ≡ true → AreAscii back ≡ true → IsUtf8 bs → IsUtf8 (front ++ (bs ++ back))
@@ -78,9 +78,9 @@ truth_utf8 false = ascii_utf8 (codes "false") refl
 number_utf8 : (z : ℤ) → is_in_range z ≡ true → IsUtf8 (signed_decimal z)
 number_utf8 z e = IsUtf8-from_ascii (signed_decimal z) (IsAscii-signed z (small z e))
   where
-  small : (z : ℤ) → is_in_range z ≡ true → mag z < 2 ^ 63
-  small (pos n) e = omega (arith, ltb-true n (2 ^ 53) e)
-  small (negsuc n) e = omega (arith, ltb-true (suc n) (2 ^ 53) e)
+    small : (z : ℤ) → is_in_range z ≡ true → mag z < 2 ^ 63
+    small (pos n) e = omega (arith, ltb-true n (2 ^ 53) e)
+    small (negsuc n) e = omega (arith, ltb-true (suc n) (2 ^ 53) e)
 
 -- ---- by induction
 

@@ -4,10 +4,11 @@
 //! A tilde that the grammar derives becomes, by substitution, a code as deep as it was, with just the values given, each in the
 //! place of its dollar; and two such codes of one tilde differ in the data of their values alone. So no value is ever read as code.
 //!
-//! `specs` has the induction over whole trees (`Related`, with `Gathered` for results that are joined from the parts) and the
-//! law that any result on a substituted tree is a result on the tree itself (`Substituted`). Layers above use them for laws of
+//! `proofs` has the induction over whole trees (`Related`, with `Gathered` for results that are joined from the parts) and the
+//! law that any result on a substituted tree is a result on the tree itself (`Substituted`). Layers above cite them for laws of
 //! their own.
 #![tactic(auto)]
+
 ghost use Rattle.std.specs.Prelude.{◌≡◌, ℕ, List, [], flat_map, length, true};
 ghost use Rattle.std.specs.List.{list_all};
 ghost use Rattle.std.specs.Str.{IsUtf8};
@@ -24,52 +25,44 @@ ghost use Rattle.mt_syntax.specs.Fold.{Every, on_stmt};
 ghost use Rattle.mt_syntax.specs.Numbering.{values_of};
 ghost use Rattle.mt_syntax.specs.Shape.{is_shaped};
 ghost use Rattle.mt_syntax.specs.Substitution.{subst, substituting};
-ghost use Rattle.mt_syntax_laws.specs.Injection.{blanked};
+ghost use Rattle.mt_syntax_laws.specs.Blanked.{blanked};
 
 /// Substitution keeps the depth of a body, whatever it puts in.
 pub fn substitution_keeps_depth()
     ensures { (values : List Data) (body : List Stmt) → depth_of (subst values body) ≡ depth_of body }
-{
-}
+{}
 
 /// Substitution keeps whether a body has the form that the grammar gives.
 pub fn substitution_keeps_shape()
     ensures { (values : List Data) (body : List Stmt) → is_shaped (subst values body) ≡ is_shaped body }
-{
-}
+{}
 
 /// The values of a substituted tilde are those that were given, in their order: one for each of its dollars.
 pub fn each_dollar_has_its_value()
     ensures { (t : Tilde) (values : List Data) → IsDerivedTilde t → length values ≡ length t.dollars → values_of (subst values t.body) ≡ values }
-{
-}
+{}
 
 /// A tilde without services, tildes and elements becomes a code, where data are given for its dollars.
 pub fn substituted_tilde_is_code()
     ensures { (t : Tilde) (values : List Data) → IsDerivedTilde t → length values ≡ length t.dollars → is_plain t.body ≡ true → list_all is_data values ≡ true → IsCode (subst values t.body) }
-{
-}
+{}
 
 /// Two codes of one body are the same, but for the data of their values.
 pub fn only_values_differ()
     ensures { (ds es : List Data) (body : List Stmt) → length ds ≡ length es → blanked (subst ds body) ≡ blanked (subst es body) }
-{
-}
+{}
 
 /// The text of a substituted body is written from the body and the values, without making the substituted body.
 pub fn text_of_substituted_body()
     ensures { (values : List Data) (body : List Stmt) → code_text (subst values body) ≡ flat_map (on_stmt (substituting (Every (List ℕ)) values writing_code)) body }
-{
-}
+{}
 
 /// A body in which nothing is put has its own text, so a writer of tildes writes codes as well.
 pub fn text_without_values()
     ensures { (body : List Stmt) → code_text (subst [] body) ≡ code_text body }
-{
-}
+{}
 
 /// The tagged JSON of data is UTF-8.
 pub fn data_text_is_utf8()
     ensures { (d : Data) → is_data d ≡ true → IsUtf8 (data_text d) }
-{
-}
+{}

@@ -1,4 +1,4 @@
-use Rattle.mt_syntax_laws.specs.Injection.{values_of_code}
+use Rattle.mt_syntax_laws.proofs.Injection.{values_of_code}
 use Rattle.mt_syntax_laws.proofs.each_dollar_has_its_value.Goals as goal
 
 pub returns : goal.returns

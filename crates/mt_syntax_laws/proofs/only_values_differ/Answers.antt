@@ -1,4 +1,4 @@
-use Rattle.mt_syntax_laws.specs.Injection.{only_values_differ}
+use Rattle.mt_syntax_laws.proofs.Injection.{only_values_differ}
 use Rattle.mt_syntax_laws.proofs.only_values_differ.Goals as goal
 
 pub returns : goal.returns

@@ -1,4 +1,4 @@
-use Rattle.mt_syntax_laws.specs.Injection.{code}
+use Rattle.mt_syntax_laws.proofs.Injection.{code}
 use Rattle.mt_syntax_laws.proofs.substituted_tilde_is_code.Goals as goal
 
 pub returns : goal.returns

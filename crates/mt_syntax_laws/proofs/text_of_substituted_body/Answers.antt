@@ -1,4 +1,4 @@
-use Rattle.mt_syntax_laws.specs.Texts.{text_by_steps}
+use Rattle.mt_syntax_laws.proofs.Texts.{text_by_steps}
 use Rattle.mt_syntax_laws.proofs.text_of_substituted_body.Goals as goal
 
 pub returns : goal.returns

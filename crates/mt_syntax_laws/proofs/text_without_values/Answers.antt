@@ -1,4 +1,4 @@
-use Rattle.mt_syntax_laws.specs.Texts.{text_without_values}
+use Rattle.mt_syntax_laws.proofs.Texts.{text_without_values}
 use Rattle.mt_syntax_laws.proofs.text_without_values.Goals as goal
 
 pub returns : goal.returns

@@ -4,8 +4,8 @@ use Rattle.mt_syntax.specs.Sort.{Sort}
 use Rattle.mt_syntax.specs.Sort as sort
 use Rattle.mt_syntax.specs.Fold.{Every, ExprKindLayer, ForStartLayer, MarkupChildLayer, MarkupValueLayer, StmtKindLayer, DeclLayer}
 use Rattle.mt_syntax.specs.Gathering.{all_of, or_none, gathering, of_expr_kind, of_for_start, of_markup_child, of_markup_value, of_stmt_kind}
-use Rattle.mt_syntax_laws.specs.Layers.{map_expr_kind, map_for_start, map_markup_child, map_markup_value, map_stmt_kind, map_decl}
-use Rattle.mt_syntax_laws.specs.Related.{Two, lefts, rights, Preserved}
+use Rattle.mt_syntax_laws.proofs.Layers.{map_expr_kind, map_for_start, map_markup_child, map_markup_value, map_stmt_kind, map_decl}
+use Rattle.mt_syntax_laws.proofs.Related.{Two, lefts, rights, Preserved}
 use Rattle.mt_syntax.specs.declared.tree.Mark.{Mark}
 use Rattle.mt_syntax.specs.declared.tree.ExprKind.TheOpen.{ExprKind-F, ForStart-F, MarkupChild-F, MarkupValue-F, StmtKind-F}
 
@@ -89,10 +89,10 @@ module _ {X Y : Type 0} (R : X → Y → Type 0) where
     pub gathered_decl : (x : DeclLayer (Two Alike)) → R (or_none none join (map_decl (lefts Alike) x).value) (or_none none' join' (map_decl (rights Alike) x).value)
     gathered_decl x = by x.name x.value
       where
-      by : (name : Mark) (value : Option (Two Alike sort.Expr))
-          → R (or_none none join (map_decl (lefts Alike) (record { name = name; value = value })).value) (or_none none' join' (map_decl (rights Alike) (record { name = name; value = value })).value)
-      by name None = at_none
-      by name (Some p) = p.holds
+        by : (name : Mark) (value : Option (Two Alike sort.Expr))
+            → R (or_none none join (map_decl (lefts Alike) (record { name = name; value = value })).value) (or_none none' join' (map_decl (rights Alike) (record { name = name; value = value })).value)
+        by name None = at_none
+        by name (Some p) = p.holds
 
     pub gathered : Preserved (gathering none join) (gathering none' join') Alike
     gathered = record {

@@ -1,26 +1,22 @@
 -- What a substituted body is made of, by the holes of the body.
-use Rattle.std.specs.Prelude.{◌≡◌, refl, ℕ, List, [], ◌∷◌, ◌++◌, map, flat_map, Option, None, Some, option_map, option_to_list, slice_get, Bool, true, false, ◌&&◌}
+use Rattle.std.specs.Prelude.{◌≡◌, refl, ℕ, List, [], ◌∷◌, ◌++◌, map, flat_map, Option, None, Some, option_to_list, slice_get, Bool, true, false, ◌&&◌}
 use Rattle.std.specs.List.{list_all}
 use Rattle.std.proofs.Common.{ap, sym, ◌∙◌}
-use Rattle.std.proofs.lemmas.Bool.{and_from, and_parts}
 use Rattle.std.proofs.lemmas.Grind.{flat_map-append}
 use Rattle.std.proofs.lemmas.List.Folds.{list_all-append}
 use Rattle.mt_tree.specs.declared.data.Data.{Data}
 use Rattle.mt_syntax.specs.Data.{is_data}
-use Rattle.mt_syntax.specs.Sort.{Sort}
-use Rattle.mt_syntax.specs.Fold.{Every, Steps, ExprKindLayer, MarkupChildLayer, MarkupValueLayer, StmtKindLayer, FunctionLayer, on_stmt}
-use Rattle.mt_syntax.specs.Substitution.{chosen, new_expr_kind, new_stmt_kind, new_function, subst, subst_stmt, substituting, unplaced}
+use Rattle.mt_syntax.specs.Fold.{Every, ExprKindLayer, StmtKindLayer, on_stmt}
+use Rattle.mt_syntax.specs.Substitution.{chosen, new_expr_kind, new_stmt_kind, subst, subst_stmt, substituting}
 use Rattle.mt_syntax.specs.Numbering.{dollars_of, dollars_of_kind, in_order, listing, listing_dollars, listing_values, values_of, values_of_kind}
-use Rattle.mt_syntax.specs.Codes.{expr_kind_is_filled, is_filled, mark_is_nowhere, name_is_nowhere, stands_nowhere, testing, testing_filled, testing_nowhere}
-use Rattle.mt_syntax.specs.Tiers.{Tiers, both, by_tier, is_client_code, tiers}
-use Rattle.mt_syntax_laws.specs.Gathered.{Alike, gathered}
-use Rattle.mt_syntax_laws.specs.Holes.{Hole, holes_of, holes_of_kind, is_data_in, is_open, is_optional_data, listing_holes, number_in, value_in}
-use Rattle.mt_syntax_laws.specs.Layers.{map_expr_kind, map_markup_child, map_markup_value, map_stmt_kind}
-use Rattle.mt_syntax_laws.specs.Related.{Preserved, Two, lefts, rights, related_stmt}
-use Rattle.mt_syntax_laws.specs.Substituted.{stmt_substituted}
-use Rattle.mt_syntax.specs.declared.tree.Mark.{Mark}
+use Rattle.mt_syntax.specs.Codes.{expr_kind_is_filled, is_filled, testing, testing_filled}
+use Rattle.mt_syntax_laws.proofs.Gathered.{Alike, gathered}
+use Rattle.mt_syntax_laws.proofs.Holes.{Hole, holes_of, holes_of_kind, is_data_in, is_optional_data, listing_holes, number_in, value_in}
+use Rattle.mt_syntax_laws.proofs.Layers.{map_expr_kind, map_stmt_kind}
+use Rattle.mt_syntax_laws.proofs.Related.{Preserved, Two, lefts, rights, related_stmt}
+use Rattle.mt_syntax_laws.proofs.Substituted.{stmt_substituted}
 use Rattle.mt_syntax.specs.declared.tree.Stmt.{Stmt}
-use Rattle.mt_syntax.specs.declared.tree.ExprKind.TheOpen.{ExprKind-F, MarkupChild-F, MarkupValue-F, StmtKind-F}
+use Rattle.mt_syntax.specs.declared.tree.ExprKind.TheOpen.{ExprKind-F, StmtKind-F}
 
 -- ---- lists and tests of the holes
 
@@ -132,8 +128,8 @@ module _ (values : List Data) where
 
   -- ---- whether each of them holds data
 
-  abbrev Data_in : Bool → List Hole → Type 0
-  Data_in = Tests (is_data_in values)
+  abbrev HoldsData : Bool → List Hole → Type 0
+  HoldsData = Tests (is_data_in values)
 
   and_true : (b : Bool) → b ≡ (b && true)
   and_true true = refl
@@ -143,18 +139,18 @@ module _ (values : List Data) where
   data_at at None = refl
   data_at at (Some d) = and_true (is_data d)
 
-  filled_kind : (x : ExprKindLayer (Two (Alike Data_in)))
-      → Data_in (expr_kind_is_filled (new_expr_kind (Every Bool) values (map_expr_kind (lefts (Alike Data_in)) x))) (holes_of_kind (map_expr_kind (rights (Alike Data_in)) x))
+  filled_kind : (x : ExprKindLayer (Two (Alike HoldsData)))
+      → HoldsData (expr_kind_is_filled (new_expr_kind (Every Bool) values (map_expr_kind (lefts (Alike HoldsData)) x))) (holes_of_kind (map_expr_kind (rights (Alike HoldsData)) x))
   filled_kind (ExprKind-F.ExprKind::Dollar at) = data_at at (slice_get values at)
   filled_kind (ExprKind-F.Val d) = and_true (is_data d)
   filled_kind x = (tests (is_data_in values)).expr_kind x
 
-  filled_stmt_kind : (x : StmtKindLayer (Two (Alike Data_in)))
-      → Data_in (testing.stmt_kind (new_stmt_kind (Every Bool) (map_stmt_kind (lefts (Alike Data_in)) x))) ((listing Hole).stmt_kind (map_stmt_kind (rights (Alike Data_in)) x))
+  filled_stmt_kind : (x : StmtKindLayer (Two (Alike HoldsData)))
+      → HoldsData (testing.stmt_kind (new_stmt_kind (Every Bool) (map_stmt_kind (lefts (Alike HoldsData)) x))) ((listing Hole).stmt_kind (map_stmt_kind (rights (Alike HoldsData)) x))
   filled_stmt_kind (StmtKind-F.Try body name handler) = (tests (is_data_in values)).stmt_kind (StmtKind-F.Try body name handler)
   filled_stmt_kind x = (tests (is_data_in values)).stmt_kind x
 
-  is_filling : Preserved (substituting (Every Bool) values testing_filled) listing_holes (Alike Data_in)
+  is_filling : Preserved (substituting (Every Bool) values testing_filled) listing_holes (Alike HoldsData)
   is_filling =
       let base = tests (is_data_in values) in
       record {
@@ -172,8 +168,8 @@ module _ (values : List Data) where
         stmt = base.stmt;
       }
 
-  filled_stmt : (t : Stmt) → Data_in (on_stmt testing_filled (subst_stmt values t)) (on_stmt listing_holes t)
-  filled_stmt t = stmt_substituted values testing_filled t ∙ related_stmt (substituting (Every Bool) values testing_filled) listing_holes (Alike Data_in) is_filling t
+  filled_stmt : (t : Stmt) → HoldsData (on_stmt testing_filled (subst_stmt values t)) (on_stmt listing_holes t)
+  filled_stmt t = stmt_substituted values testing_filled t ∙ related_stmt (substituting (Every Bool) values testing_filled) listing_holes (Alike HoldsData) is_filling t
 
   all_map : (f : Stmt → Bool) (body : List Stmt) → list_all f (subst values body) ≡ list_all (λ t. f (subst_stmt values t)) body
   all_map f [] = refl

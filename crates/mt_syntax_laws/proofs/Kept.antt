@@ -1,16 +1,16 @@
 -- Results that substitution leaves as they are.
-use Rattle.std.specs.Prelude.{◌≡◌, refl, ℕ, List, [], ◌∷◌, map, Option, None, Some, slice_get, option_map, max, Bool, true, false, ◌&&◌}
+use Rattle.std.specs.Prelude.{◌≡◌, refl, ℕ, List, [], ◌∷◌, map, Option, None, Some, slice_get, option_map, max, Bool, true, ◌&&◌}
 use Rattle.std.specs.List.{list_all}
 use Rattle.std.proofs.Common.{ap, ◌∙◌}
 use Rattle.mt_tree.specs.declared.data.Data.{Data}
 use Rattle.mt_syntax.specs.Sort.{Sort}
-use Rattle.mt_syntax.specs.Fold.{Every, Steps, ExprKindLayer, StmtKindLayer, DeclLayer, ExprLayer, FunctionLayer, MarkupAttributeLayer, StmtLayer, on_expr, on_stmt}
-use Rattle.mt_syntax.specs.Gathering.{gathering, of_stmt_kind}
+use Rattle.mt_syntax.specs.Fold.{Every, Steps, ExprKindLayer, StmtKindLayer, DeclLayer, ExprLayer, FunctionLayer, MarkupAttributeLayer, StmtLayer, on_stmt}
+use Rattle.mt_syntax.specs.Gathering.{of_stmt_kind}
 use Rattle.mt_syntax.specs.Substitution.{chosen, substituting, new_expr_kind, new_stmt_kind, new_decl, new_expr, new_function, new_markup_attribute, new_stmt, subst, subst_stmt, unplaced}
 use Rattle.mt_syntax.specs.Depth.{depth_of, depth_of_kind, depth_of_stmt, greatest, measuring, nothing}
 use Rattle.mt_syntax.specs.Shape.{Part, expr_kind_part, function_part, is_shaped, is_shaped_stmt, mark_fits, shaping, stmt_kind_part}
 use Rattle.mt_syntax.specs.Codes.{expr_kind_is_plain, is_plain, stmt_kind_is_plain, testing_plain}
-use Rattle.mt_syntax_laws.specs.Substituted.{stmt_substituted}
+use Rattle.mt_syntax_laws.proofs.Substituted.{stmt_substituted}
 use Rattle.mt_syntax.specs.declared.tree.Mark.{Mark}
 use Rattle.mt_syntax.specs.declared.tree.Stmt.{Stmt}
 use Rattle.mt_syntax.specs.declared.tree.ExprKind.TheOpen.{ExprKind-F, StmtKind-F}

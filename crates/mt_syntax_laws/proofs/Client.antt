@@ -1,5 +1,5 @@
 -- Client code has no value of its own, so a derived tilde has a hole for each of its dollars, in their order.
-use Rattle.std.specs.Prelude.{◌≡◌, refl, ℕ, zero, suc, ◌+◌, List, [], ◌∷◌, ◌++◌, map, flat_map, length, Option, None, Some, option_to_list, slice_get, Bool, true, false, ◌&&◌}
+use Rattle.std.specs.Prelude.{◌≡◌, refl, ℕ, zero, suc, ◌+◌, List, [], ◌∷◌, ◌++◌, map, flat_map, length, Some, option_to_list, slice_get, true, ◌&&◌}
 use Rattle.std.specs.List.{list_all, range_with_len}
 use Rattle.std.proofs.Common.{ap, sym, ◌∙◌, add-one}
 use Rattle.std.proofs.lemmas.Bool.{and_from, and_parts, false≢true}
@@ -8,13 +8,13 @@ use Rattle.mt_tree.specs.declared.data.Data.{Data}
 use Rattle.mt_syntax.specs.Data.{is_data}
 use Rattle.mt_syntax.specs.Derivation.{IsDerivedTilde}
 use Rattle.mt_syntax.specs.Fold.{ExprKindLayer, MarkupChildLayer, MarkupValueLayer, on_stmt}
-use Rattle.mt_syntax.specs.Numbering.{dollars_of, listing}
+use Rattle.mt_syntax.specs.Numbering.{listing}
 use Rattle.mt_syntax.specs.Tiers.{Tiers, both, by_tier, expr_kind_tiers, is_client_code, markup_child_tiers, markup_value_tiers, placing, tiers}
-use Rattle.mt_syntax_laws.specs.Filled.{dollars_by_holes}
-use Rattle.mt_syntax_laws.specs.Gathered.{Alike, gathered}
-use Rattle.mt_syntax_laws.specs.Holes.{Hole, holes_of, holes_of_kind, is_data_in, is_open, is_optional_data, listing_holes, number_in, value_in}
-use Rattle.mt_syntax_laws.specs.Layers.{map_expr_kind, map_markup_child, map_markup_value}
-use Rattle.mt_syntax_laws.specs.Related.{Preserved, Two, lefts, rights, related_stmt}
+use Rattle.mt_syntax_laws.proofs.Filled.{dollars_by_holes}
+use Rattle.mt_syntax_laws.proofs.Gathered.{Alike, gathered}
+use Rattle.mt_syntax_laws.proofs.Holes.{Hole, holes_of, holes_of_kind, is_data_in, is_open, is_optional_data, listing_holes, number_in, value_in}
+use Rattle.mt_syntax_laws.proofs.Layers.{map_expr_kind, map_markup_child, map_markup_value}
+use Rattle.mt_syntax_laws.proofs.Related.{Preserved, Two, lefts, rights, related_stmt}
 use Rattle.mt_syntax.specs.declared.program.Tilde.{Tilde}
 use Rattle.mt_syntax.specs.declared.tree.Stmt.{Stmt}
 use Rattle.mt_syntax.specs.declared.tree.ExprKind.TheOpen.{ExprKind-F, MarkupChild-F, MarkupValue-F}

@@ -1,13 +1,12 @@
 -- The text of a substituted body, written from the body and the values without making the body.
 use Rattle.std.specs.Prelude.{◌≡◌, refl, ℕ, List, [], ◌∷◌, ◌++◌, map, flat_map, Option, None, Some, option_map, codes}
-use Rattle.std.proofs.Common.{ap, ◌∙◌}
 use Rattle.mt_tree.specs.declared.data.Data.{Data}
 use Rattle.mt_syntax.specs.CodeText.{block, code_text, expr_kind_code, function_code, name_text, stmt_kind_code, writing_code}
 use Rattle.mt_syntax.specs.DataText.{separated}
 use Rattle.mt_syntax.specs.Fold.{Every, ExprKindLayer, StmtKindLayer, on_stmt}
 use Rattle.mt_syntax.specs.Substitution.{new_expr_kind, new_stmt_kind, subst, subst_stmt, substituting, unplaced}
-use Rattle.mt_syntax_laws.specs.Kept.{AreKept, map_kept, stmt_kept}
-use Rattle.mt_syntax_laws.specs.Substituted.{stmt_substituted}
+use Rattle.mt_syntax_laws.proofs.Kept.{AreKept, map_kept, stmt_kept}
+use Rattle.mt_syntax_laws.proofs.Substituted.{stmt_substituted}
 use Rattle.mt_syntax.specs.declared.tree.Mark.{Mark}
 use Rattle.mt_syntax.specs.declared.tree.Stmt.{Stmt}
 use Rattle.mt_syntax.specs.declared.tree.ExprKind.TheOpen.{ExprKind-F, StmtKind-F}

@@ -1,19 +1,17 @@
 -- No part of a substituted body stands in a source.
-use Rattle.std.specs.Prelude.{◌≡◌, refl, ℕ, slice_get, List, [], ◌∷◌, map, Option, None, Some, option_map, Bool, true, false, ◌&&◌}
+use Rattle.std.specs.Prelude.{◌≡◌, refl, ℕ, slice_get, List, [], ◌∷◌, map, Option, None, Some, option_map, Bool, true, ◌&&◌}
 use Rattle.std.specs.List.{list_all}
-use Rattle.std.proofs.Common.{ap, ◌∙◌}
+use Rattle.std.proofs.Common.{◌∙◌}
 use Rattle.std.proofs.lemmas.Bool.{and_from}
 use Rattle.mt_tree.specs.declared.data.Data.{Data}
-use Rattle.mt_syntax.specs.Sort.{Sort}
 use Rattle.mt_syntax.specs.Fold.{Every, Steps, ExprKindLayer, StmtKindLayer, FunctionLayer, on_stmt}
 use Rattle.mt_syntax.specs.Gathering.{gathering}
 use Rattle.mt_syntax.specs.Substitution.{chosen, new_expr_kind, new_stmt_kind, new_function, subst, subst_stmt, substituting, unplaced}
 use Rattle.mt_syntax.specs.Codes.{mark_is_nowhere, name_is_nowhere, stands_nowhere, stmt_kind_is_nowhere, testing, testing_nowhere}
-use Rattle.mt_syntax_laws.specs.Gathered.{Alike, gathered}
-use Rattle.mt_syntax_laws.specs.Kept.{gathered_stmt_kind}
-use Rattle.mt_syntax_laws.specs.Layers.{map_expr_kind, map_function, map_stmt_kind}
-use Rattle.mt_syntax_laws.specs.Related.{Preserved, Two, lefts, rights, related_stmt}
-use Rattle.mt_syntax_laws.specs.Substituted.{stmt_substituted}
+use Rattle.mt_syntax_laws.proofs.Gathered.{Alike, gathered}
+use Rattle.mt_syntax_laws.proofs.Layers.{map_expr_kind, map_function, map_stmt_kind}
+use Rattle.mt_syntax_laws.proofs.Related.{Preserved, Two, lefts, related_stmt}
+use Rattle.mt_syntax_laws.proofs.Substituted.{stmt_substituted}
 use Rattle.mt_syntax.specs.declared.tree.Mark.{Mark}
 use Rattle.mt_syntax.specs.declared.tree.Stmt.{Stmt}
 use Rattle.mt_syntax.specs.declared.tree.ExprKind.TheOpen.{ExprKind-F, StmtKind-F}

@@ -1,13 +1,12 @@
 -- Any result on a substituted tree is a result on the tree itself, by the steps that substitute at each node.
-use Rattle.std.specs.Prelude.{◌≡◌, ℕ, refl, List, map, Option, None, Some, slice_get}
+use Rattle.std.specs.Prelude.{◌≡◌, ℕ, refl, List, Option, None, Some, slice_get}
 use Rattle.std.proofs.Common.{ap, ◌∙◌}
 use Rattle.mt_tree.specs.declared.data.Data.{Data}
 use Rattle.mt_syntax.specs.Sort.{Sort}
-use Rattle.mt_syntax.specs.Sort as sort
 use Rattle.mt_syntax.specs.Fold.{Steps, Tree, same, ExprKindLayer, ForStartLayer, MarkupChildLayer, MarkupValueLayer, StmtKindLayer, DeclLayer, ExprLayer, FunctionLayer, MarkupLayer, MarkupAttributeLayer, PropLayer, StmtLayer, on_expr_kind, on_for_start, on_markup_child, on_markup_value, on_stmt_kind, on_decl, on_expr, on_function, on_markup, on_markup_attribute, on_prop, on_stmt}
 use Rattle.mt_syntax.specs.Substitution.{chosen, substituting, new_expr_kind, new_stmt_kind, new_decl, new_expr, new_function, new_markup_attribute, new_stmt, subst_expr_kind, subst_for_start, subst_markup_child, subst_markup_value, subst_stmt_kind, subst_decl, subst_expr, subst_function, subst_markup, subst_markup_attribute, subst_prop, subst_stmt}
-use Rattle.mt_syntax_laws.specs.Layers.{map_expr_kind, map_for_start, map_markup_child, map_markup_value, map_stmt_kind, map_decl, map_expr, map_function, map_markup, map_markup_attribute, map_prop, map_stmt, expr_kind_twice, for_start_twice, markup_child_twice, markup_value_twice, stmt_kind_twice, decl_twice, expr_twice, function_twice, markup_twice, markup_attribute_twice, prop_twice, stmt_twice}
-use Rattle.mt_syntax_laws.specs.Related.{on, at_expr_kind, at_for_start, at_markup_child, at_markup_value, at_stmt_kind, at_decl, at_expr, at_function, at_markup, at_markup_attribute, at_prop, at_stmt, Two, Preserved, related_expr_kind, related_for_start, related_markup_child, related_markup_value, related_stmt_kind, related_decl, related_expr, related_function, related_markup, related_markup_attribute, related_prop, related_stmt}
+use Rattle.mt_syntax_laws.proofs.Layers.{map_expr_kind, map_for_start, map_markup_child, map_markup_value, map_stmt_kind, map_decl, map_expr, map_function, map_markup, map_markup_attribute, map_prop, map_stmt, expr_kind_twice, for_start_twice, markup_child_twice, markup_value_twice, stmt_kind_twice, decl_twice, expr_twice, function_twice, markup_twice, markup_attribute_twice, prop_twice, stmt_twice}
+use Rattle.mt_syntax_laws.proofs.Related.{on, at_expr_kind, at_for_start, at_markup_child, at_markup_value, at_stmt_kind, at_decl, at_expr, at_function, at_markup, at_markup_attribute, at_prop, at_stmt, Two, Preserved, related_expr_kind, related_for_start, related_markup_child, related_markup_value, related_stmt_kind, related_decl, related_expr, related_function, related_markup, related_markup_attribute, related_prop, related_stmt}
 use Rattle.mt_syntax.specs.declared.tree.ExprKind.{ExprKind}
 use Rattle.mt_syntax.specs.declared.tree.ForStart.{ForStart}
 use Rattle.mt_syntax.specs.declared.tree.MarkupChild.{MarkupChild}

@@ -1,25 +1,24 @@
 -- What a derived tilde becomes by substitution: a code that has just the values given, each in the place of its dollar.
-use Rattle.std.specs.Prelude.{◌≡◌, refl, ℕ, zero, suc, List, [], ◌∷◌, map, flat_map, length, Option, None, Some, slice_get, is_some, Bool, true}
+use Rattle.std.specs.Prelude.{◌≡◌, refl, ℕ, zero, suc, List, [], ◌∷◌, map, flat_map, length, Option, None, Some, slice_get, is_some, true}
 use Rattle.std.specs.List.{list_all, range_with_len}
 use Rattle.std.proofs.Common.{ap, sym, ◌∙◌}
 use Rattle.std.proofs.Math.Nat.{suc-ne-zero, suc_inj}
 use Rattle.std.proofs.lemmas.Bool.{false≢true, true≢false}
 use Rattle.mt_tree.specs.declared.data.Data.{Data}
-use Rattle.mt_tree.specs.declared.data.Data.TheVariants.{Null}
 use Rattle.mt_syntax.specs.Codes.{IsCode, is_plain}
 use Rattle.mt_syntax.specs.Data.{is_data}
 use Rattle.mt_syntax.specs.Derivation.{IsDerivedTilde}
-use Rattle.mt_syntax.specs.Fold.{ExprKindLayer, Steps, Tree, on_stmt, same}
+use Rattle.mt_syntax.specs.Fold.{ExprKindLayer, Tree, on_stmt}
 use Rattle.mt_syntax.specs.Numbering.{values_of}
 use Rattle.mt_syntax.specs.Substitution.{chosen, new_expr_kind, subst, subst_stmt, substituting}
-use Rattle.mt_syntax_laws.specs.Client.{data_in_order, derived_holes, values_in_order}
-use Rattle.mt_syntax_laws.specs.Filled.{filled_by_holes, values_by_holes}
-use Rattle.mt_syntax_laws.specs.Holes.{Hole, is_data_in, value_in}
-use Rattle.mt_syntax_laws.specs.Kept.{plain_kept, shape_kept}
-use Rattle.mt_syntax_laws.specs.Nowhere.{substituted_nowhere}
-use Rattle.mt_syntax_laws.specs.Substituted.{stmt_substituted}
+use Rattle.mt_syntax_laws.specs.Blanked.{blanked, blanking}
+use Rattle.mt_syntax_laws.proofs.Client.{data_in_order, derived_holes, values_in_order}
+use Rattle.mt_syntax_laws.proofs.Filled.{filled_by_holes, values_by_holes}
+use Rattle.mt_syntax_laws.proofs.Holes.{Hole, is_data_in, value_in}
+use Rattle.mt_syntax_laws.proofs.Kept.{plain_kept, shape_kept}
+use Rattle.mt_syntax_laws.proofs.Nowhere.{substituted_nowhere}
+use Rattle.mt_syntax_laws.proofs.Substituted.{stmt_substituted}
 use Rattle.mt_syntax.specs.declared.program.Tilde.{Tilde}
-use Rattle.mt_syntax.specs.declared.tree.ExprKind.{ExprKind, roll-ExprKind}
 use Rattle.mt_syntax.specs.declared.tree.Stmt.{Stmt}
 use Rattle.mt_syntax.specs.declared.tree.ExprKind.TheOpen.{ExprKind-F}
 
@@ -43,17 +42,6 @@ module _ (t : Tilde) (values : List Data) (derived : IsDerivedTilde t) (enough :
   }
 
 -- ---- the same but for the values
-
-abbrev pub blank : ExprKindLayer Tree → ExprKindLayer Tree
-blank (ExprKind-F.Val d) = ExprKind-F.Val Null
-blank layer = layer
-
-abbrev pub blanking : Steps Tree
-blanking = record same { expr_kind = λ layer. roll-ExprKind (blank layer) }
-
--- the body with `null` as each of its values
-abbrev pub blanked : List Stmt → List Stmt
-blanked = map (on_stmt blanking)
 
 blank_same : (at : ℕ) (d e : Option Data) → is_some d ≡ is_some e → blanking.expr_kind (chosen Tree at d) ≡ blanking.expr_kind (chosen Tree at e)
 blank_same at None None h = refl

@@ -5,7 +5,7 @@ use Rattle.std.proofs.Common.{sym, ap, ◌∙◌, subst}
 use Rattle.mt_syntax.specs.Sort.{Sort}
 use Rattle.mt_syntax.specs.Sort as sort
 use Rattle.mt_syntax.specs.Fold.{Steps, Tree, ExprKindLayer, ForStartLayer, MarkupChildLayer, MarkupValueLayer, StmtKindLayer, DeclLayer, ExprLayer, FunctionLayer, MarkupLayer, MarkupAttributeLayer, PropLayer, StmtLayer, on_expr_kind, on_for_start, on_markup_child, on_markup_value, on_stmt_kind, on_decl, on_expr, on_function, on_markup, on_markup_attribute, on_prop, on_stmt}
-use Rattle.mt_syntax_laws.specs.Layers.{map_expr_kind, map_for_start, map_markup_child, map_markup_value, map_stmt_kind, map_decl, map_expr, map_function, map_markup, map_markup_attribute, map_prop, map_stmt, expr_kind_twice, for_start_twice, markup_child_twice, markup_value_twice, stmt_kind_twice, decl_twice, expr_twice, function_twice, markup_twice, markup_attribute_twice, prop_twice, stmt_twice}
+use Rattle.mt_syntax_laws.proofs.Layers.{map_expr_kind, map_for_start, map_markup_child, map_markup_value, map_stmt_kind, map_decl, map_expr, map_function, map_markup, map_markup_attribute, map_prop, map_stmt, expr_kind_twice, for_start_twice, markup_child_twice, markup_value_twice, stmt_kind_twice, decl_twice, expr_twice, function_twice, markup_twice, markup_attribute_twice, prop_twice, stmt_twice}
 use Rattle.mt_syntax.specs.declared.tree.ExprKind.{ExprKind, roll-ExprKind}
 use Rattle.mt_syntax.specs.declared.tree.ForStart.{ForStart, roll-ForStart}
 use Rattle.mt_syntax.specs.declared.tree.MarkupChild.{MarkupChild, roll-MarkupChild}
@@ -118,97 +118,97 @@ module _ {A B : Sort → Type 0} (a : Steps A) (b : Steps B) (R : (s : Sort) →
     expr_kind_holds : (x : ExprKindLayer Tree) (y : ExprKindLayer Held) → map_expr_kind tree y ≡ x → Holds sort.ExprKind (roll-ExprKind x)
     expr_kind_holds x y is =
         let left : a.expr_kind (map_expr_kind (lefts R) (map_expr_kind two y)) ≡ on_expr_kind a (roll-ExprKind x) =
-            ap a.expr_kind (expr_kind_twice two (lefts R) y ∙ sym (expr_kind_twice tree (on a) y) ∙ ap (map_expr_kind (on a)) is) ∙ sym (at_expr_kind a x) in
+        ap a.expr_kind (expr_kind_twice two (lefts R) y ∙ sym (expr_kind_twice tree (on a) y) ∙ ap (map_expr_kind (on a)) is) ∙ sym (at_expr_kind a x) in
         let right : b.expr_kind (map_expr_kind (rights R) (map_expr_kind two y)) ≡ on_expr_kind b (roll-ExprKind x) =
-            ap b.expr_kind (expr_kind_twice two (rights R) y ∙ sym (expr_kind_twice tree (on b) y) ∙ ap (map_expr_kind (on b)) is) ∙ sym (at_expr_kind b x) in
+        ap b.expr_kind (expr_kind_twice two (rights R) y ∙ sym (expr_kind_twice tree (on b) y) ∙ ap (map_expr_kind (on b)) is) ∙ sym (at_expr_kind b x) in
         subst (λ z. R sort.ExprKind (on_expr_kind a (roll-ExprKind x)) z) right (subst (λ z. R sort.ExprKind z (b.expr_kind (map_expr_kind (rights R) (map_expr_kind two y)))) left (preserved.expr_kind (map_expr_kind two y)))
 
     for_start_holds : (x : ForStartLayer Tree) (y : ForStartLayer Held) → map_for_start tree y ≡ x → Holds sort.ForStart (roll-ForStart x)
     for_start_holds x y is =
         let left : a.for_start (map_for_start (lefts R) (map_for_start two y)) ≡ on_for_start a (roll-ForStart x) =
-            ap a.for_start (for_start_twice two (lefts R) y ∙ sym (for_start_twice tree (on a) y) ∙ ap (map_for_start (on a)) is) ∙ sym (at_for_start a x) in
+        ap a.for_start (for_start_twice two (lefts R) y ∙ sym (for_start_twice tree (on a) y) ∙ ap (map_for_start (on a)) is) ∙ sym (at_for_start a x) in
         let right : b.for_start (map_for_start (rights R) (map_for_start two y)) ≡ on_for_start b (roll-ForStart x) =
-            ap b.for_start (for_start_twice two (rights R) y ∙ sym (for_start_twice tree (on b) y) ∙ ap (map_for_start (on b)) is) ∙ sym (at_for_start b x) in
+        ap b.for_start (for_start_twice two (rights R) y ∙ sym (for_start_twice tree (on b) y) ∙ ap (map_for_start (on b)) is) ∙ sym (at_for_start b x) in
         subst (λ z. R sort.ForStart (on_for_start a (roll-ForStart x)) z) right (subst (λ z. R sort.ForStart z (b.for_start (map_for_start (rights R) (map_for_start two y)))) left (preserved.for_start (map_for_start two y)))
 
     markup_child_holds : (x : MarkupChildLayer Tree) (y : MarkupChildLayer Held) → map_markup_child tree y ≡ x → Holds sort.MarkupChild (roll-MarkupChild x)
     markup_child_holds x y is =
         let left : a.markup_child (map_markup_child (lefts R) (map_markup_child two y)) ≡ on_markup_child a (roll-MarkupChild x) =
-            ap a.markup_child (markup_child_twice two (lefts R) y ∙ sym (markup_child_twice tree (on a) y) ∙ ap (map_markup_child (on a)) is) ∙ sym (at_markup_child a x) in
+        ap a.markup_child (markup_child_twice two (lefts R) y ∙ sym (markup_child_twice tree (on a) y) ∙ ap (map_markup_child (on a)) is) ∙ sym (at_markup_child a x) in
         let right : b.markup_child (map_markup_child (rights R) (map_markup_child two y)) ≡ on_markup_child b (roll-MarkupChild x) =
-            ap b.markup_child (markup_child_twice two (rights R) y ∙ sym (markup_child_twice tree (on b) y) ∙ ap (map_markup_child (on b)) is) ∙ sym (at_markup_child b x) in
+        ap b.markup_child (markup_child_twice two (rights R) y ∙ sym (markup_child_twice tree (on b) y) ∙ ap (map_markup_child (on b)) is) ∙ sym (at_markup_child b x) in
         subst (λ z. R sort.MarkupChild (on_markup_child a (roll-MarkupChild x)) z) right (subst (λ z. R sort.MarkupChild z (b.markup_child (map_markup_child (rights R) (map_markup_child two y)))) left (preserved.markup_child (map_markup_child two y)))
 
     markup_value_holds : (x : MarkupValueLayer Tree) (y : MarkupValueLayer Held) → map_markup_value tree y ≡ x → Holds sort.MarkupValue (roll-MarkupValue x)
     markup_value_holds x y is =
         let left : a.markup_value (map_markup_value (lefts R) (map_markup_value two y)) ≡ on_markup_value a (roll-MarkupValue x) =
-            ap a.markup_value (markup_value_twice two (lefts R) y ∙ sym (markup_value_twice tree (on a) y) ∙ ap (map_markup_value (on a)) is) ∙ sym (at_markup_value a x) in
+        ap a.markup_value (markup_value_twice two (lefts R) y ∙ sym (markup_value_twice tree (on a) y) ∙ ap (map_markup_value (on a)) is) ∙ sym (at_markup_value a x) in
         let right : b.markup_value (map_markup_value (rights R) (map_markup_value two y)) ≡ on_markup_value b (roll-MarkupValue x) =
-            ap b.markup_value (markup_value_twice two (rights R) y ∙ sym (markup_value_twice tree (on b) y) ∙ ap (map_markup_value (on b)) is) ∙ sym (at_markup_value b x) in
+        ap b.markup_value (markup_value_twice two (rights R) y ∙ sym (markup_value_twice tree (on b) y) ∙ ap (map_markup_value (on b)) is) ∙ sym (at_markup_value b x) in
         subst (λ z. R sort.MarkupValue (on_markup_value a (roll-MarkupValue x)) z) right (subst (λ z. R sort.MarkupValue z (b.markup_value (map_markup_value (rights R) (map_markup_value two y)))) left (preserved.markup_value (map_markup_value two y)))
 
     stmt_kind_holds : (x : StmtKindLayer Tree) (y : StmtKindLayer Held) → map_stmt_kind tree y ≡ x → Holds sort.StmtKind (roll-StmtKind x)
     stmt_kind_holds x y is =
         let left : a.stmt_kind (map_stmt_kind (lefts R) (map_stmt_kind two y)) ≡ on_stmt_kind a (roll-StmtKind x) =
-            ap a.stmt_kind (stmt_kind_twice two (lefts R) y ∙ sym (stmt_kind_twice tree (on a) y) ∙ ap (map_stmt_kind (on a)) is) ∙ sym (at_stmt_kind a x) in
+        ap a.stmt_kind (stmt_kind_twice two (lefts R) y ∙ sym (stmt_kind_twice tree (on a) y) ∙ ap (map_stmt_kind (on a)) is) ∙ sym (at_stmt_kind a x) in
         let right : b.stmt_kind (map_stmt_kind (rights R) (map_stmt_kind two y)) ≡ on_stmt_kind b (roll-StmtKind x) =
-            ap b.stmt_kind (stmt_kind_twice two (rights R) y ∙ sym (stmt_kind_twice tree (on b) y) ∙ ap (map_stmt_kind (on b)) is) ∙ sym (at_stmt_kind b x) in
+        ap b.stmt_kind (stmt_kind_twice two (rights R) y ∙ sym (stmt_kind_twice tree (on b) y) ∙ ap (map_stmt_kind (on b)) is) ∙ sym (at_stmt_kind b x) in
         subst (λ z. R sort.StmtKind (on_stmt_kind a (roll-StmtKind x)) z) right (subst (λ z. R sort.StmtKind z (b.stmt_kind (map_stmt_kind (rights R) (map_stmt_kind two y)))) left (preserved.stmt_kind (map_stmt_kind two y)))
 
     decl_holds : (x : DeclLayer Tree) (y : DeclLayer Held) → map_decl tree y ≡ x → Holds sort.Decl (roll-Decl x)
     decl_holds x y is =
         let left : a.decl (map_decl (lefts R) (map_decl two y)) ≡ on_decl a (roll-Decl x) =
-            ap a.decl (decl_twice two (lefts R) y ∙ sym (decl_twice tree (on a) y) ∙ ap (map_decl (on a)) is) ∙ sym (at_decl a x) in
+        ap a.decl (decl_twice two (lefts R) y ∙ sym (decl_twice tree (on a) y) ∙ ap (map_decl (on a)) is) ∙ sym (at_decl a x) in
         let right : b.decl (map_decl (rights R) (map_decl two y)) ≡ on_decl b (roll-Decl x) =
-            ap b.decl (decl_twice two (rights R) y ∙ sym (decl_twice tree (on b) y) ∙ ap (map_decl (on b)) is) ∙ sym (at_decl b x) in
+        ap b.decl (decl_twice two (rights R) y ∙ sym (decl_twice tree (on b) y) ∙ ap (map_decl (on b)) is) ∙ sym (at_decl b x) in
         subst (λ z. R sort.Decl (on_decl a (roll-Decl x)) z) right (subst (λ z. R sort.Decl z (b.decl (map_decl (rights R) (map_decl two y)))) left (preserved.decl (map_decl two y)))
 
     expr_holds : (x : ExprLayer Tree) (y : ExprLayer Held) → map_expr tree y ≡ x → Holds sort.Expr (roll-Expr x)
     expr_holds x y is =
         let left : a.expr (map_expr (lefts R) (map_expr two y)) ≡ on_expr a (roll-Expr x) =
-            ap a.expr (expr_twice two (lefts R) y ∙ sym (expr_twice tree (on a) y) ∙ ap (map_expr (on a)) is) ∙ sym (at_expr a x) in
+        ap a.expr (expr_twice two (lefts R) y ∙ sym (expr_twice tree (on a) y) ∙ ap (map_expr (on a)) is) ∙ sym (at_expr a x) in
         let right : b.expr (map_expr (rights R) (map_expr two y)) ≡ on_expr b (roll-Expr x) =
-            ap b.expr (expr_twice two (rights R) y ∙ sym (expr_twice tree (on b) y) ∙ ap (map_expr (on b)) is) ∙ sym (at_expr b x) in
+        ap b.expr (expr_twice two (rights R) y ∙ sym (expr_twice tree (on b) y) ∙ ap (map_expr (on b)) is) ∙ sym (at_expr b x) in
         subst (λ z. R sort.Expr (on_expr a (roll-Expr x)) z) right (subst (λ z. R sort.Expr z (b.expr (map_expr (rights R) (map_expr two y)))) left (preserved.expr (map_expr two y)))
 
     function_holds : (x : FunctionLayer Tree) (y : FunctionLayer Held) → map_function tree y ≡ x → Holds sort.Function (roll-Function x)
     function_holds x y is =
         let left : a.function (map_function (lefts R) (map_function two y)) ≡ on_function a (roll-Function x) =
-            ap a.function (function_twice two (lefts R) y ∙ sym (function_twice tree (on a) y) ∙ ap (map_function (on a)) is) ∙ sym (at_function a x) in
+        ap a.function (function_twice two (lefts R) y ∙ sym (function_twice tree (on a) y) ∙ ap (map_function (on a)) is) ∙ sym (at_function a x) in
         let right : b.function (map_function (rights R) (map_function two y)) ≡ on_function b (roll-Function x) =
-            ap b.function (function_twice two (rights R) y ∙ sym (function_twice tree (on b) y) ∙ ap (map_function (on b)) is) ∙ sym (at_function b x) in
+        ap b.function (function_twice two (rights R) y ∙ sym (function_twice tree (on b) y) ∙ ap (map_function (on b)) is) ∙ sym (at_function b x) in
         subst (λ z. R sort.Function (on_function a (roll-Function x)) z) right (subst (λ z. R sort.Function z (b.function (map_function (rights R) (map_function two y)))) left (preserved.function (map_function two y)))
 
     markup_holds : (x : MarkupLayer Tree) (y : MarkupLayer Held) → map_markup tree y ≡ x → Holds sort.Markup (roll-Markup x)
     markup_holds x y is =
         let left : a.markup (map_markup (lefts R) (map_markup two y)) ≡ on_markup a (roll-Markup x) =
-            ap a.markup (markup_twice two (lefts R) y ∙ sym (markup_twice tree (on a) y) ∙ ap (map_markup (on a)) is) ∙ sym (at_markup a x) in
+        ap a.markup (markup_twice two (lefts R) y ∙ sym (markup_twice tree (on a) y) ∙ ap (map_markup (on a)) is) ∙ sym (at_markup a x) in
         let right : b.markup (map_markup (rights R) (map_markup two y)) ≡ on_markup b (roll-Markup x) =
-            ap b.markup (markup_twice two (rights R) y ∙ sym (markup_twice tree (on b) y) ∙ ap (map_markup (on b)) is) ∙ sym (at_markup b x) in
+        ap b.markup (markup_twice two (rights R) y ∙ sym (markup_twice tree (on b) y) ∙ ap (map_markup (on b)) is) ∙ sym (at_markup b x) in
         subst (λ z. R sort.Markup (on_markup a (roll-Markup x)) z) right (subst (λ z. R sort.Markup z (b.markup (map_markup (rights R) (map_markup two y)))) left (preserved.markup (map_markup two y)))
 
     markup_attribute_holds : (x : MarkupAttributeLayer Tree) (y : MarkupAttributeLayer Held) → map_markup_attribute tree y ≡ x → Holds sort.MarkupAttribute (roll-MarkupAttribute x)
     markup_attribute_holds x y is =
         let left : a.markup_attribute (map_markup_attribute (lefts R) (map_markup_attribute two y)) ≡ on_markup_attribute a (roll-MarkupAttribute x) =
-            ap a.markup_attribute (markup_attribute_twice two (lefts R) y ∙ sym (markup_attribute_twice tree (on a) y) ∙ ap (map_markup_attribute (on a)) is) ∙ sym (at_markup_attribute a x) in
+        ap a.markup_attribute (markup_attribute_twice two (lefts R) y ∙ sym (markup_attribute_twice tree (on a) y) ∙ ap (map_markup_attribute (on a)) is) ∙ sym (at_markup_attribute a x) in
         let right : b.markup_attribute (map_markup_attribute (rights R) (map_markup_attribute two y)) ≡ on_markup_attribute b (roll-MarkupAttribute x) =
-            ap b.markup_attribute (markup_attribute_twice two (rights R) y ∙ sym (markup_attribute_twice tree (on b) y) ∙ ap (map_markup_attribute (on b)) is) ∙ sym (at_markup_attribute b x) in
+        ap b.markup_attribute (markup_attribute_twice two (rights R) y ∙ sym (markup_attribute_twice tree (on b) y) ∙ ap (map_markup_attribute (on b)) is) ∙ sym (at_markup_attribute b x) in
         subst (λ z. R sort.MarkupAttribute (on_markup_attribute a (roll-MarkupAttribute x)) z) right (subst (λ z. R sort.MarkupAttribute z (b.markup_attribute (map_markup_attribute (rights R) (map_markup_attribute two y)))) left (preserved.markup_attribute (map_markup_attribute two y)))
 
     prop_holds : (x : PropLayer Tree) (y : PropLayer Held) → map_prop tree y ≡ x → Holds sort.Prop (roll-Prop x)
     prop_holds x y is =
         let left : a.prop (map_prop (lefts R) (map_prop two y)) ≡ on_prop a (roll-Prop x) =
-            ap a.prop (prop_twice two (lefts R) y ∙ sym (prop_twice tree (on a) y) ∙ ap (map_prop (on a)) is) ∙ sym (at_prop a x) in
+        ap a.prop (prop_twice two (lefts R) y ∙ sym (prop_twice tree (on a) y) ∙ ap (map_prop (on a)) is) ∙ sym (at_prop a x) in
         let right : b.prop (map_prop (rights R) (map_prop two y)) ≡ on_prop b (roll-Prop x) =
-            ap b.prop (prop_twice two (rights R) y ∙ sym (prop_twice tree (on b) y) ∙ ap (map_prop (on b)) is) ∙ sym (at_prop b x) in
+        ap b.prop (prop_twice two (rights R) y ∙ sym (prop_twice tree (on b) y) ∙ ap (map_prop (on b)) is) ∙ sym (at_prop b x) in
         subst (λ z. R sort.Prop (on_prop a (roll-Prop x)) z) right (subst (λ z. R sort.Prop z (b.prop (map_prop (rights R) (map_prop two y)))) left (preserved.prop (map_prop two y)))
 
     stmt_holds : (x : StmtLayer Tree) (y : StmtLayer Held) → map_stmt tree y ≡ x → Holds sort.Stmt (roll-Stmt x)
     stmt_holds x y is =
         let left : a.stmt (map_stmt (lefts R) (map_stmt two y)) ≡ on_stmt a (roll-Stmt x) =
-            ap a.stmt (stmt_twice two (lefts R) y ∙ sym (stmt_twice tree (on a) y) ∙ ap (map_stmt (on a)) is) ∙ sym (at_stmt a x) in
+        ap a.stmt (stmt_twice two (lefts R) y ∙ sym (stmt_twice tree (on a) y) ∙ ap (map_stmt (on a)) is) ∙ sym (at_stmt a x) in
         let right : b.stmt (map_stmt (rights R) (map_stmt two y)) ≡ on_stmt b (roll-Stmt x) =
-            ap b.stmt (stmt_twice two (rights R) y ∙ sym (stmt_twice tree (on b) y) ∙ ap (map_stmt (on b)) is) ∙ sym (at_stmt b x) in
+        ap b.stmt (stmt_twice two (rights R) y ∙ sym (stmt_twice tree (on b) y) ∙ ap (map_stmt (on b)) is) ∙ sym (at_stmt b x) in
         subst (λ z. R sort.Stmt (on_stmt a (roll-Stmt x)) z) right (subst (λ z. R sort.Stmt z (b.stmt (map_stmt (rights R) (map_stmt two y)))) left (preserved.stmt (map_stmt two y)))
 
     pub related_expr_kind : (t : ExprKind) → R sort.ExprKind (on_expr_kind a t) (on_expr_kind b t)

@@ -1,5 +1,5 @@
 -- The holes of a body: its dollars, and the values that stand where dollars did.
-use Rattle.std.specs.Prelude.{ℕ, List, [], ◌∷◌, ◌++◌, map, Option, None, Some, option_to_list, slice_get, Bool, true, false}
+use Rattle.std.specs.Prelude.{ℕ, List, [], ◌∷◌, map, Option, None, Some, option_to_list, slice_get, Bool, true, false}
 use Rattle.mt_tree.specs.declared.data.Data.{Data}
 use Rattle.mt_syntax.specs.Data.{is_data}
 use Rattle.mt_syntax.specs.Fold.{Every, ExprKindLayer, Steps, on_stmt}
