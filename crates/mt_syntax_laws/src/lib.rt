@@ -2,7 +2,7 @@
 //! whose body is empty.
 //!
 //! A tilde that the grammar derives becomes, by substitution, a code as deep as it was, with just the values given, each in the
-//! place of its dollar; and two such codes of one tilde differ in the data of their values alone. So no value is ever read as code.
+//! place of its dollar; and two such codes of one tilde differ in the data of their values alone.
 //!
 //! `proofs` has the induction over whole trees (`Related`, with `Gathered` for results that are joined from the parts) and the
 //! law that any result on a substituted tree is a result on the tree itself (`Substituted`). Layers above cite them for laws of
