@@ -38,4 +38,4 @@ depth_of body = greatest (map depth_of_stmt body)
 
 -- a program with its tildes and their dollars: an item has depth 1, and a dollar's expression stands one below the dollar
 abbrev pub depth_of_program : Program → ℕ
-depth_of_program = on_program measuring 0 greatest
+depth_of_program = on_program measuring 0 greatest (λ id depth. depth)

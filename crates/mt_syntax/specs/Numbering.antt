@@ -44,7 +44,7 @@ values_of body = in_order (map (on_stmt listing_values) body)
 
 module _ (tilde dollar : ℕ → List ℕ) where
   abbrev pub tildes_of_kind : ExprKindLayer (Every (List ℕ)) → List ℕ
-  tildes_of_kind (ExprKind-F.ExprKind::Tilde id) = id ∷ tilde id
+  tildes_of_kind (ExprKind-F.ExprKind::Tilde id) = tilde id
   tildes_of_kind (ExprKind-F.ExprKind::Dollar at) = dollar at
   tildes_of_kind layer = (listing ℕ).expr_kind layer
 
@@ -52,7 +52,7 @@ module _ (tilde dollar : ℕ → List ℕ) where
   listing_tildes = record (listing ℕ) { expr_kind = tildes_of_kind }
 
 abbrev pub tildes_of : Program → List ℕ
-tildes_of = on_program listing_tildes [] in_order
+tildes_of = on_program listing_tildes [] in_order (λ id ids. id ∷ ids)
 
 -- 0, 1, 2 and so on, up to before the bound
 abbrev pub AreNumbers : List ℕ → ℕ → Type 0

@@ -7,9 +7,9 @@ use Rattle.mt_syntax.specs.declared.tree.Stmt.{Stmt}
 use Rattle.mt_syntax.specs.declared.program.Program.{Program}
 use Rattle.mt_syntax.specs.declared.program.Tilde.{Tilde}
 
--- The steps are given the results by the numbers of tildes and of dollars. A number that names none has the result `absent`,
--- and a list of statements the result `joined` of their results.
-module _ {X : Type 0} (steps : (ℕ → X) → (ℕ → X) → Steps (Every X)) (absent : X) (joined : List X → X) where
+-- The steps are given the results by the numbers of tildes and of dollars. A number that names none has the result `absent`, a
+-- list of statements the result `joined` of their results, and a tilde what `numbered` makes of its number and the result on it.
+module _ {X : Type 0} (steps : (ℕ → X) → (ℕ → X) → Steps (Every X)) (absent : X) (joined : List X → X) (numbered : ℕ → X → X) where
   abbrev pub on_body : (ℕ → X) → (ℕ → X) → List Stmt → X
   on_body tilde dollar body = joined (map (on_stmt (steps tilde dollar)) body)
 
@@ -25,7 +25,8 @@ module _ {X : Type 0} (steps : (ℕ → X) → (ℕ → X) → Steps (Every X)) 
   -- tildes that nest in one another at most so deep
   abbrev pub on_tilde_number : List Tilde → ℕ → ℕ → X
   on_tilde_number tildes zero id = absent
-  on_tilde_number tildes (suc n) id = on_tilde (on_tilde_number tildes n) (slice_get tildes id)
+  on_tilde_number tildes (suc n) id = numbered id (on_tilde (on_tilde_number tildes n) (slice_get tildes id))
 
+  -- there is no deeper nest than of all tildes, and of a number that names none
   abbrev pub on_program : Program → X
-  on_program p = on_body (on_tilde_number p.tildes (length p.tildes)) (λ at. absent) p.items
+  on_program p = on_body (on_tilde_number p.tildes (suc (length p.tildes))) (λ at. absent) p.items

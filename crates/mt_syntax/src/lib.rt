@@ -20,6 +20,3 @@ pub use tree::{
     Binary, Decl, Expr, ExprKind, ForStart, Function, Mark, Markup, MarkupAttribute, MarkupChild,
     MarkupValue, Prop, StepKind, Stmt, StmtKind, Unary, VarKind,
 };
-
-#[cfg(test)]
-mod tests;

@@ -1,4 +1,5 @@
 pub mod Client
+pub mod Deep
 pub mod Examples
 pub mod Filled
 pub mod Gathered

@@ -9,23 +9,27 @@
 //! their own.
 #![tactic(auto)]
 
-ghost use Rattle.std.specs.Prelude.{◌≡◌, ℕ, List, [], flat_map, length, true};
+ghost use Rattle.std.specs.Prelude.{◌≡◌, ◌≤◌, ℕ, List, [], flat_map, length, slice_get, Some, true};
 ghost use Rattle.std.specs.List.{list_all};
 ghost use Rattle.std.specs.Str.{IsUtf8};
 ghost use Rattle.mt_tree.specs.declared.data.Data.{Data};
+ghost use Rattle.mt_syntax.specs.declared.program.Program.{Program};
 ghost use Rattle.mt_syntax.specs.declared.program.Tilde.{Tilde};
 ghost use Rattle.mt_syntax.specs.declared.tree.Stmt.{Stmt};
 ghost use Rattle.mt_syntax.specs.CodeText.{code_text, writing_code};
 ghost use Rattle.mt_syntax.specs.Codes.{IsCode, is_plain};
 ghost use Rattle.mt_syntax.specs.Data.{is_data};
 ghost use Rattle.mt_syntax.specs.DataText.{data_text};
-ghost use Rattle.mt_syntax.specs.Depth.{depth_of};
-ghost use Rattle.mt_syntax.specs.Derivation.{IsDerivedTilde};
+ghost use Rattle.mt_syntax.specs.Depth.{depth_of, depth_of_program};
+ghost use Rattle.mt_syntax.specs.Derivation.{IsDerived, IsDerivedTilde};
 ghost use Rattle.mt_syntax.specs.Fold.{Every, on_stmt};
 ghost use Rattle.mt_syntax.specs.Numbering.{values_of};
 ghost use Rattle.mt_syntax.specs.Shape.{is_shaped};
 ghost use Rattle.mt_syntax.specs.Substitution.{subst, substituting};
 ghost use Rattle.mt_syntax_laws.specs.Blanked.{blanked};
+
+#[cfg(test)]
+mod tests;
 
 /// Substitution keeps the depth of a body, whatever it puts in.
 pub fn substitution_keeps_depth()
@@ -65,4 +69,9 @@ pub fn text_without_values()
 /// The tagged JSON of data is UTF-8.
 pub fn data_text_is_utf8()
     ensures { (d : Data) → is_data d ≡ true → IsUtf8 (data_text d) }
+{}
+
+/// Each tilde of a derived program is at most as deep as the program, and so is what it becomes by substitution.
+pub fn tildes_are_at_most_as_deep()
+    ensures { (p : Program) (number : ℕ) (t : Tilde) → IsDerived p → slice_get p.tildes number ≡ Some t → depth_of t.body ≤ depth_of_program p }
 {}

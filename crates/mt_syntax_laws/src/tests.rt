@@ -1,4 +1,4 @@
-use super::*;
+use mt_syntax::{Code, Expr, ExprKind, Stmt, StmtKind, Tilde, substitute};
 use mt_tree::{Boxed, Data, NoMemory, Place, Row};
 use std::alloc::Global;
 use std::test::Fail;
