@@ -1,12 +1,12 @@
 -- Each tilde of a derived program is at most as deep as the program.
-use Rattle.std.proofs.Common.{◌≡◌, ℕ, zero, suc, ◌+◌, ◌<◌, ◌≤◌, max, List, [], ◌∷◌, ◌++◌, map, length, Option, None, Some, slice_get, refl, sym, ap, ◌∙◌, subst, add-zero, zero-add, arith}
+use Rattle.std.proofs.Common.{◌≡◌, ℕ, zero, suc, ◌+◌, ◌<◌, ◌≤◌, max, List, [], ◌∷◌, ◌++◌, map, length, Option, None, Some, slice_get, sym, subst, add-zero, zero-add, arith}
 use Rattle.std.specs.List.{range_with_len}
 use Rattle.std.proofs.lemmas.Bool.Decides.{nat_tests}
-use Rattle.mt_syntax.specs.Fold.{Every, ExprKindLayer, Steps, on_expr, on_stmt}
+use Rattle.mt_syntax.specs.Fold.{ExprKindLayer, on_expr, on_stmt}
 use Rattle.mt_syntax.specs.Gathering.{gathering}
 use Rattle.mt_syntax.specs.Depth.{depth_of, depth_of_kind, depth_of_program, greatest, measuring, nothing}
-use Rattle.mt_syntax.specs.Numbering.{AreNumbers, in_order, listing_tildes, tildes_of, tildes_of_kind}
-use Rattle.mt_syntax.specs.Whole.{on_body, on_dollar, on_tilde, on_tilde_number}
+use Rattle.mt_syntax.specs.Numbering.{in_order, listing_tildes, tildes_of, tildes_of_kind}
+use Rattle.mt_syntax.specs.Whole.{on_dollar, on_tilde, on_tilde_number}
 use Rattle.mt_syntax.specs.Derivation.{IsDerived}
 use Rattle.mt_syntax_laws.proofs.Gathered.{Alike, gathered}
 use Rattle.mt_syntax_laws.proofs.Layers.{map_expr_kind}

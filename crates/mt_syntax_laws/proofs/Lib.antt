@@ -1,8 +1,10 @@
 pub mod Client
+pub mod CodeOpenings
 pub mod Deep
 pub mod Examples
 pub mod Filled
 pub mod Gathered
+pub mod Harmless
 pub mod Holes
 pub mod Injection
 pub mod Kept

@@ -27,6 +27,7 @@ ghost use Rattle.mt_syntax.specs.Numbering.{values_of};
 ghost use Rattle.mt_syntax.specs.Shape.{is_shaped};
 ghost use Rattle.mt_syntax.specs.Substitution.{subst, substituting};
 ghost use Rattle.mt_syntax_laws.specs.Blanked.{blanked};
+ghost use Rattle.mt_syntax_laws.specs.Openings.{opens_nothing};
 
 #[cfg(test)]
 mod tests;
@@ -71,7 +72,12 @@ pub fn data_text_is_utf8()
     ensures { (d : Data) → is_data d ≡ true → IsUtf8 (data_text d) }
 {}
 
-/// Each tilde of a derived program is at most as deep as the program, and so is what it becomes by substitution.
-pub fn tildes_are_at_most_as_deep()
-    ensures { (p : Program) (number : ℕ) (t : Tilde) → IsDerived p → slice_get p.tildes number ≡ Some t → depth_of t.body ≤ depth_of_program p }
+/// What a tilde of a derived program becomes by substitution is at most as deep as the program.
+pub fn codes_are_at_most_as_deep()
+    ensures { (p : Program) (number : ℕ) (t : Tilde) (values : List Data) → IsDerived p → slice_get p.tildes number ≡ Some t → depth_of (subst values t.body) ≤ depth_of_program p }
+{}
+
+/// In the text of code `<` stands only before a space or `=`, so that no text of code ends a script or opens an element.
+pub fn code_text_opens_nothing()
+    ensures { (body : List Stmt) → is_shaped body ≡ true → opens_nothing (code_text body) ≡ true }
 {}
