@@ -1,0 +1,4 @@
+pub mod Globals
+pub mod Lawful
+pub mod Limits
+pub mod Names
