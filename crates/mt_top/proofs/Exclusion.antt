@@ -1,17 +1,24 @@
 -- A run ends as expected, or with a fault.
-use Rattle.std.proofs.Common.{◌≡◌, ◌⊎◌, inl, inr, ◌≤◌, ◌<◌, ℕ, List, [], length, get_or, Option, None, Some, IfSome, refl, sym, ap, ◌∙◌, arith, subst}
+use Rattle.std.proofs.Common.{◌≡◌, ◌⊎◌, inl, inr, ◌≤◌, ◌<◌, ℕ, List, [], ◌∷◌, length, get_or, codes, Option, None, Some, IfSome, refl, sym, ap, ◌∙◌, arith, subst}
 use Rattle.std.specs.Str.{chars}
 use Rattle.mt_top.specs.declared.status.Status.{Status}
 use Rattle.mt_top.specs.declared.status.Status.TheVariants.{Done, Refused, Usage, BadSchedule, FileFault, SinkFault, WireFault, NoMemory, TooLong, StartFailed, DoorFault}
-use Rattle.mt_top.specs.Words.{IsReplay}
-use Rattle.mt_top.specs.Replay.{FilesSeen, Effects, file_limit, IsRead, IsTooLong, IsOneTooLong, BothRead, FileTooLong, BothSpelled, StatusMeans, TextsMean, IsNotSmallText, IsSmallText, IsScheduleText, IsNotScheduleText}
-use Rattle.mt_top.specs.Expected.{Holds, HoldsMore, BothHold, OneHoldsMore, Expected, IsFault}
+use Rattle.mt_top.specs.Words.{Asked, check, replay, Asks}
+use Rattle.mt_top.specs.Texts.{FilesSeen, file_limit, IsRead, IsTooLong, Holds, HoldsMore, IsNotSmallText, IsNotScheduleText}
+use Rattle.mt_top.specs.Meaning.{SinkSeen, WireSeen, IsOneTooLong, BothRead, BothSpelled, StatusMeans, AskedMeans}
+use Rattle.mt_top.specs.Expected.{BothHold, OneHoldsMore, ExpectedOf, Expected, IsFault}
 
-first_same : (words : List (List ℕ)) (a s b t : List ℕ) → IsReplay words a s → IsReplay words b t → a ≡ b
-first_same words a s b t p q = ap (λ (ws : List (List ℕ)). get_or ws 1 []) (sym p.words_are ∙ q.words_are)
-
-second_same : (words : List (List ℕ)) (a s b t : List ℕ) → IsReplay words a s → IsReplay words b t → s ≡ t
-second_same words a s b t p q = ap (λ (ws : List (List ℕ)). get_or ws 2 []) (sym p.words_are ∙ q.words_are)
+-- words ask for one thing alone
+asks_same : (words : List (List ℕ)) (x y : Asked) → Asks words x → Asks words y → x ≡ y
+asks_same words (check a) (check b) p q = ap check (ap (λ (ws : List (List ℕ)). get_or ws 1 []) (sym p.0 ∙ q.0))
+asks_same words (check a) (replay b t) p q =
+    let e : length (codes "check" ∷ a ∷ []) ≡ length (codes "replay" ∷ b ∷ t ∷ []) = ap length (sym p.0 ∙ q.0) in absurd (omega (arith, e))
+asks_same words (replay a s) (check b) p q =
+    let e : length (codes "replay" ∷ a ∷ s ∷ []) ≡ length (codes "check" ∷ b ∷ []) = ap length (sym p.0 ∙ q.0) in absurd (omega (arith, e))
+asks_same words (replay a s) (replay b t) p q =
+    let first = ap (λ (ws : List (List ℕ)). get_or ws 1 []) (sym p.0 ∙ q.0) in
+    let second = ap (λ (ws : List (List ℕ)). get_or ws 2 []) (sym p.0 ∙ q.0) in
+    ap (λ (x : List ℕ). replay x s) first ∙ ap (replay b) second
 
 abbrev or_else : Option (List ℕ) → List ℕ → List ℕ
 or_else None default = default
@@ -35,9 +42,13 @@ not_shorter : (told : Option (List ℕ)) (bytes text : List ℕ) → IfSome told
 not_shorter told bytes text read short holds long =
     let same : length bytes ≡ length text = ap length (told_same told bytes text read holds) in omega (arith, same)
 
-read_same : (files : FilesSeen) (a b bytes text : List ℕ) → a ≡ b → IsRead files a bytes → Holds files b text → bytes ≡ text
-read_same files a b bytes text names read holds =
-    told_same (files.contents (chars b)) bytes text (subst (λ (n : List ℕ). IfSome (files.contents (chars n)) (λ x. bytes ≡ x)) names read.0) holds.0
+-- a file that was read whole holds no more
+never_more : (files : FilesSeen) (name bytes : List ℕ) → IsRead files name bytes → HoldsMore files name → ⊥
+never_more files name bytes read more = not_shorter (files.contents (chars name)) bytes more.0 read.0 read.1 more.1 more.2
+
+-- a file that holds no more is not too long
+never_long : (files : FilesSeen) (name text : List ℕ) → IsTooLong files name → Holds files name text → ⊥
+never_long files name text long holds = not_longer (files.contents (chars name)) text long holds.0 holds.1
 
 -- what both sides say of the same two texts
 record Meet (P Q : List ℕ → List ℕ → Type 0) : Type 0 where
@@ -46,12 +57,10 @@ record Meet (P Q : List ℕ → List ℕ → Type 0) : Type 0 where
   one : P application schedule
   other : Q application schedule
 
-meet : (files : FilesSeen) (words : List (List ℕ)) (P Q : List ℕ → List ℕ → Type 0) → BothHold files words P → BothRead files words Q → Meet P Q
-meet files words P Q h r =
-    let application = read_same files r.application_name h.application_name r.application h.application
-    (first_same words r.application_name r.schedule_name h.application_name h.schedule_name r.is_replay h.is_replay) r.application_read h.application_holds in
-    let schedule = read_same files r.schedule_name h.schedule_name r.schedule h.schedule
-    (second_same words r.application_name r.schedule_name h.application_name h.schedule_name r.is_replay h.is_replay) r.schedule_read h.schedule_holds in
+meet : (files : FilesSeen) (a s : List ℕ) (P Q : List ℕ → List ℕ → Type 0) → BothHold files a s P → BothRead files a s Q → Meet P Q
+meet files a s P Q h r =
+    let application = told_same (files.contents (chars a)) r.application h.application r.application_read.0 h.application_holds.0 in
+    let schedule = told_same (files.contents (chars s)) r.schedule h.schedule r.schedule_read.0 h.schedule_holds.0 in
     record {
       application = h.application;
       schedule = h.schedule;
@@ -59,42 +68,13 @@ meet files words P Q h r =
       other = subst (λ (x : List ℕ). Q x h.schedule) application (subst (λ (y : List ℕ). Q r.application y) schedule r.holds);
     }
 
--- files that were read whole hold no more
-never_more : (files : FilesSeen) (words : List (List ℕ)) (Q : List ℕ → List ℕ → Type 0) → OneHoldsMore files words → BothRead files words Q → ⊥
-never_more files words Q h r = at h.holds_more where
-  first : r.application_name ≡ h.application_name
-  first = first_same words r.application_name r.schedule_name h.application_name h.schedule_name r.is_replay h.is_replay
+neither_more : (files : FilesSeen) (a s : List ℕ) (Q : List ℕ → List ℕ → Type 0) → OneHoldsMore files a s → BothRead files a s Q → ⊥
+neither_more files a s Q (inl more) r = never_more files a r.application r.application_read more
+neither_more files a s Q (inr (text, holds, more)) r = never_more files s r.schedule r.schedule_read more
 
-  second : r.schedule_name ≡ h.schedule_name
-  second = second_same words r.application_name r.schedule_name h.application_name h.schedule_name r.is_replay h.is_replay
-
-  never : (a b bytes : List ℕ) → a ≡ b → IsRead files a bytes → HoldsMore files b → ⊥
-  never a b bytes names read more = not_shorter (files.contents (chars b)) bytes more.0
-      (subst (λ (n : List ℕ). IfSome (files.contents (chars n)) (λ x. bytes ≡ x)) names read.0) read.1 more.1 more.2
-
-  at : HoldsMore files h.application_name ⊎ ((application : List ℕ) × Holds files h.application_name application × HoldsMore files h.schedule_name) → ⊥
-  at (inl more) = never r.application_name h.application_name r.application first r.application_read more
-  at (inr (application, holds, more)) = never r.schedule_name h.schedule_name r.schedule second r.schedule_read more
-
--- files that hold no more are not too long
-never_long : (files : FilesSeen) (words : List (List ℕ)) (P : List ℕ → List ℕ → Type 0) → BothHold files words P → FileTooLong files words → ⊥
-never_long files words P h r = at r.too_long where
-  first : r.application_name ≡ h.application_name
-  first = first_same words r.application_name r.schedule_name h.application_name h.schedule_name r.is_replay h.is_replay
-
-  second : r.schedule_name ≡ h.schedule_name
-  second = second_same words r.application_name r.schedule_name h.application_name h.schedule_name r.is_replay h.is_replay
-
-  never : (a b text : List ℕ) → a ≡ b → IsTooLong files a → Holds files b text → ⊥
-  never a b text names long holds = not_longer (files.contents (chars b)) text
-      (subst (λ (n : List ℕ). IfSome (files.contents (chars n)) (λ x. file_limit < length x)) names long) holds.0 holds.1
-
-  at : IsOneTooLong files r.application_name r.schedule_name → ⊥
-  at (inl long) = never r.application_name h.application_name h.application first long h.application_holds
-  at (inr (bytes, read, long)) = never r.schedule_name h.schedule_name h.schedule second long h.schedule_holds
-
-no_usage : (words : List (List ℕ)) (a s : List ℕ) → ((application schedule : List ℕ) → IsReplay words application schedule → ⊥) → IsReplay words a s → ⊥
-no_usage words a s none is = none a s is
+neither_long : (files : FilesSeen) (a s : List ℕ) (P : List ℕ → List ℕ → Type 0) → BothHold files a s P → IsOneTooLong files a s → ⊥
+neither_long files a s P h (inl long) = never_long files a h.application long h.application_holds
+neither_long files a s P h (inr (bytes, read, long)) = never_long files s h.schedule long h.schedule_holds
 
 spelled_once : (application schedule : List ℕ) (P : _) → BothSpelled application schedule P → IsNotSmallText application → ⊥
 spelled_once application schedule P is none = none is.small is.fits is.application_is
@@ -102,42 +82,160 @@ spelled_once application schedule P is none = none is.small is.fits is.applicati
 scheduled_once : (application schedule : List ℕ) (P : _) → BothSpelled application schedule P → IsNotScheduleText schedule → ⊥
 scheduled_once application schedule P is none = none is.commands is.schedule_is
 
-pub ends_as_expected : (files : FilesSeen) (effects : Effects) (words : List (List ℕ)) (expected status : Status)
-    → Expected files words expected → StatusMeans files effects words status → (status ≡ expected) ⊎ IsFault status
-ends_as_expected files effects words e FileFault x m = inr tt
-ends_as_expected files effects words e SinkFault x m = inr tt
-ends_as_expected files effects words e WireFault x m = inr tt
-ends_as_expected files effects words e NoMemory x m = inr tt
-ends_as_expected files effects words e StartFailed x m = absurd m
-ends_as_expected files effects words e DoorFault x m = absurd m
-ends_as_expected files effects words FileFault status x m = absurd x
-ends_as_expected files effects words SinkFault status x m = absurd x
-ends_as_expected files effects words WireFault status x m = absurd x
-ends_as_expected files effects words NoMemory status x m = absurd x
-ends_as_expected files effects words StartFailed status x m = absurd x
-ends_as_expected files effects words DoorFault status x m = absurd x
-ends_as_expected files effects words Usage Usage x m = inl refl
-ends_as_expected files effects words TooLong TooLong x m = inl refl
-ends_as_expected files effects words Refused Refused x m = inl refl
-ends_as_expected files effects words BadSchedule BadSchedule x m = inl refl
-ends_as_expected files effects words Done Done x m = inl refl
-ends_as_expected files effects words Usage TooLong x m = absurd (x _ _ m.0.is_replay)
-ends_as_expected files effects words Usage Refused x m = absurd (x _ _ m.is_replay)
-ends_as_expected files effects words Usage BadSchedule x m = absurd (x _ _ m.is_replay)
-ends_as_expected files effects words Usage Done x m = absurd (x _ _ m.is_replay)
-ends_as_expected files effects words TooLong Usage x m = absurd (m.0 _ _ x.is_replay)
-ends_as_expected files effects words Refused Usage x m = absurd (m.0 _ _ x.is_replay)
-ends_as_expected files effects words BadSchedule Usage x m = absurd (m.0 _ _ x.is_replay)
-ends_as_expected files effects words Done Usage x m = absurd (m.0 _ _ x.is_replay)
-ends_as_expected files effects words TooLong Refused x m = absurd (never_more files words _ x m)
-ends_as_expected files effects words TooLong BadSchedule x m = absurd (never_more files words _ x m)
-ends_as_expected files effects words TooLong Done x m = absurd (never_more files words _ x m)
-ends_as_expected files effects words Refused TooLong x m = absurd (never_long files words _ x m.0)
-ends_as_expected files effects words BadSchedule TooLong x m = absurd (never_long files words _ x m.0)
-ends_as_expected files effects words Done TooLong x m = absurd (never_long files words _ x m.0)
-ends_as_expected files effects words Refused BadSchedule x m = absurd (let both = meet files words _ _ x m in both.one both.other.0.0 both.other.0.1 both.other.0.2)
-ends_as_expected files effects words Refused Done x m = absurd (let both = meet files words _ _ x m in spelled_once _ _ _ both.other both.one)
-ends_as_expected files effects words BadSchedule Refused x m = absurd (let both = meet files words _ _ x m in both.other.0 both.one.0.0 both.one.0.1 both.one.0.2)
-ends_as_expected files effects words BadSchedule Done x m = absurd (let both = meet files words _ _ x m in scheduled_once _ _ _ both.other both.one.1)
-ends_as_expected files effects words Done Refused x m = absurd (let both = meet files words _ _ x m in both.other.0 both.one.0.0 both.one.0.1 both.one.0.2)
-ends_as_expected files effects words Done BadSchedule x m = absurd (let both = meet files words _ _ x m in both.other.1 both.one.1.0 both.one.1.1)
+of_check : (files : FilesSeen) (sink : SinkSeen) (wire : WireSeen) (a : List ℕ) (e r : Status)
+    → ExpectedOf files (check a) e → AskedMeans files sink wire (check a) r → (r ≡ e) ⊎ IsFault r
+of_check files sink wire a e FileFault x m = inr tt
+of_check files sink wire a e SinkFault x m = inr tt
+of_check files sink wire a e NoMemory x m = inr tt
+of_check files sink wire a e WireFault x m = absurd m
+of_check files sink wire a e StartFailed x m = absurd m
+of_check files sink wire a e DoorFault x m = absurd m
+of_check files sink wire a e Usage x m = absurd m
+of_check files sink wire a e Done x m = absurd m
+of_check files sink wire a e BadSchedule x m = absurd m
+of_check files sink wire a Refused Refused x m = inl refl
+of_check files sink wire a TooLong TooLong x m = inl refl
+of_check files sink wire a TooLong Refused x m = absurd (never_more files a m.0 m.1 x)
+of_check files sink wire a Refused TooLong x m = absurd (never_long files a x.0 m.0 x.1)
+of_check files sink wire a Done r x m = absurd x
+of_check files sink wire a Usage r x m = absurd x
+of_check files sink wire a BadSchedule r x m = absurd x
+of_check files sink wire a FileFault r x m = absurd x
+of_check files sink wire a SinkFault r x m = absurd x
+of_check files sink wire a WireFault r x m = absurd x
+of_check files sink wire a NoMemory r x m = absurd x
+of_check files sink wire a StartFailed r x m = absurd x
+of_check files sink wire a DoorFault r x m = absurd x
+
+of_replay : (files : FilesSeen) (sink : SinkSeen) (wire : WireSeen) (a s : List ℕ) (e r : Status)
+    → ExpectedOf files (replay a s) e → AskedMeans files sink wire (replay a s) r → (r ≡ e) ⊎ IsFault r
+of_replay files sink wire a s e FileFault x m = inr tt
+of_replay files sink wire a s e SinkFault x m = inr tt
+of_replay files sink wire a s e WireFault x m = inr tt
+of_replay files sink wire a s e NoMemory x m = inr tt
+of_replay files sink wire a s e StartFailed x m = absurd m
+of_replay files sink wire a s e DoorFault x m = absurd m
+of_replay files sink wire a s e Usage x m = absurd m
+of_replay files sink wire a s TooLong TooLong x m = inl refl
+of_replay files sink wire a s Refused Refused x m = inl refl
+of_replay files sink wire a s BadSchedule BadSchedule x m = inl refl
+of_replay files sink wire a s Done Done x m = inl refl
+of_replay files sink wire a s TooLong Refused x m = absurd (neither_more files a s _ x m)
+of_replay files sink wire a s TooLong BadSchedule x m = absurd (neither_more files a s _ x m)
+of_replay files sink wire a s TooLong Done x m = absurd (neither_more files a s _ x m)
+of_replay files sink wire a s Refused TooLong x m = absurd (neither_long files a s _ x m.0)
+of_replay files sink wire a s BadSchedule TooLong x m = absurd (neither_long files a s _ x m.0)
+of_replay files sink wire a s Done TooLong x m = absurd (neither_long files a s _ x m.0)
+of_replay files sink wire a s Refused BadSchedule x m = absurd (let both = meet files a s _ _ x m in both.one both.other.0.0 both.other.0.1 both.other.0.2)
+of_replay files sink wire a s Refused Done x m = absurd (let both = meet files a s _ _ x m in spelled_once _ _ _ both.other both.one)
+of_replay files sink wire a s BadSchedule Refused x m = absurd (let both = meet files a s _ _ x m in both.other.0 both.one.0.0 both.one.0.1 both.one.0.2)
+of_replay files sink wire a s BadSchedule Done x m = absurd (let both = meet files a s _ _ x m in scheduled_once _ _ _ both.other both.one.1)
+of_replay files sink wire a s Done Refused x m = absurd (let both = meet files a s _ _ x m in both.other.0 both.one.0.0 both.one.0.1 both.one.0.2)
+of_replay files sink wire a s Done BadSchedule x m = absurd (let both = meet files a s _ _ x m in both.other.1 both.one.1.0 both.one.1.1)
+of_replay files sink wire a s Usage r x m = absurd x
+of_replay files sink wire a s FileFault r x m = absurd x
+of_replay files sink wire a s SinkFault r x m = absurd x
+of_replay files sink wire a s WireFault r x m = absurd x
+of_replay files sink wire a s NoMemory r x m = absurd x
+of_replay files sink wire a s StartFailed r x m = absurd x
+of_replay files sink wire a s DoorFault r x m = absurd x
+
+of_asked : (files : FilesSeen) (sink : SinkSeen) (wire : WireSeen) (asked : Asked) (e r : Status)
+    → ExpectedOf files asked e → AskedMeans files sink wire asked r → (r ≡ e) ⊎ IsFault r
+of_asked files sink wire (check a) e r x m = of_check files sink wire a e r x m
+of_asked files sink wire (replay a s) e r x m = of_replay files sink wire a s e r x m
+
+abbrev AsksFor : (Asked → Type 0) → List (List ℕ) → Type 0
+AsksFor P words = (asked : Asked) × Asks words asked × P asked
+
+of_words : (files : FilesSeen) (sink : SinkSeen) (wire : WireSeen) (words : List (List ℕ)) (e r : Status)
+    → AsksFor (λ asked. ExpectedOf files asked e) words → AsksFor (λ asked. AskedMeans files sink wire asked r) words → (r ≡ e) ⊎ IsFault r
+of_words files sink wire words e r (x, asks_x, expected) (y, asks_y, means) =
+    of_asked files sink wire y e r (subst (λ (a : Asked). ExpectedOf files a e) (asks_same words x y asks_x asks_y) expected) means
+
+nothing : (words : List (List ℕ)) (P : Asked → Type 0) → ((asked : Asked) → Asks words asked → ⊥) → AsksFor P words → ⊥
+nothing words P none (asked, asks, holds) = none asked asks
+
+pub ends_as_expected : (files : FilesSeen) (sink : SinkSeen) (wire : WireSeen) (words : List (List ℕ)) (e r : Status)
+    → Expected files words e → StatusMeans files sink wire words r → (r ≡ e) ⊎ IsFault r
+ends_as_expected files sink wire words e SinkFault x m = inr tt
+ends_as_expected files sink wire words e NoMemory x m = inr tt
+ends_as_expected files sink wire words e FileFault x m = inr tt
+ends_as_expected files sink wire words e WireFault x m = inr tt
+ends_as_expected files sink wire words Usage Usage x m = inl refl
+ends_as_expected files sink wire words Usage Done x m = absurd (nothing words (λ a. AskedMeans files sink wire a Done) x m)
+ends_as_expected files sink wire words Usage Refused x m = absurd (nothing words (λ a. AskedMeans files sink wire a Refused) x m)
+ends_as_expected files sink wire words Usage BadSchedule x m = absurd (nothing words (λ a. AskedMeans files sink wire a BadSchedule) x m)
+ends_as_expected files sink wire words Usage TooLong x m = absurd (nothing words (λ a. AskedMeans files sink wire a TooLong) x m)
+ends_as_expected files sink wire words Usage StartFailed x m = absurd (nothing words (λ a. AskedMeans files sink wire a StartFailed) x m)
+ends_as_expected files sink wire words Usage DoorFault x m = absurd (nothing words (λ a. AskedMeans files sink wire a DoorFault) x m)
+ends_as_expected files sink wire words Done Usage x m = absurd (nothing words (λ a. ExpectedOf files a Done) m.0 x)
+ends_as_expected files sink wire words Refused Usage x m = absurd (nothing words (λ a. ExpectedOf files a Refused) m.0 x)
+ends_as_expected files sink wire words BadSchedule Usage x m = absurd (nothing words (λ a. ExpectedOf files a BadSchedule) m.0 x)
+ends_as_expected files sink wire words TooLong Usage x m = absurd (nothing words (λ a. ExpectedOf files a TooLong) m.0 x)
+ends_as_expected files sink wire words FileFault Usage x m = absurd (nothing words (λ a. ExpectedOf files a FileFault) m.0 x)
+ends_as_expected files sink wire words SinkFault Usage x m = absurd (nothing words (λ a. ExpectedOf files a SinkFault) m.0 x)
+ends_as_expected files sink wire words WireFault Usage x m = absurd (nothing words (λ a. ExpectedOf files a WireFault) m.0 x)
+ends_as_expected files sink wire words NoMemory Usage x m = absurd (nothing words (λ a. ExpectedOf files a NoMemory) m.0 x)
+ends_as_expected files sink wire words StartFailed Usage x m = absurd (nothing words (λ a. ExpectedOf files a StartFailed) m.0 x)
+ends_as_expected files sink wire words DoorFault Usage x m = absurd (nothing words (λ a. ExpectedOf files a DoorFault) m.0 x)
+ends_as_expected files sink wire words Done Done x m = of_words files sink wire words Done Done x m
+ends_as_expected files sink wire words Done Refused x m = of_words files sink wire words Done Refused x m
+ends_as_expected files sink wire words Done BadSchedule x m = of_words files sink wire words Done BadSchedule x m
+ends_as_expected files sink wire words Done TooLong x m = of_words files sink wire words Done TooLong x m
+ends_as_expected files sink wire words Done StartFailed x m = of_words files sink wire words Done StartFailed x m
+ends_as_expected files sink wire words Done DoorFault x m = of_words files sink wire words Done DoorFault x m
+ends_as_expected files sink wire words Refused Done x m = of_words files sink wire words Refused Done x m
+ends_as_expected files sink wire words Refused Refused x m = of_words files sink wire words Refused Refused x m
+ends_as_expected files sink wire words Refused BadSchedule x m = of_words files sink wire words Refused BadSchedule x m
+ends_as_expected files sink wire words Refused TooLong x m = of_words files sink wire words Refused TooLong x m
+ends_as_expected files sink wire words Refused StartFailed x m = of_words files sink wire words Refused StartFailed x m
+ends_as_expected files sink wire words Refused DoorFault x m = of_words files sink wire words Refused DoorFault x m
+ends_as_expected files sink wire words BadSchedule Done x m = of_words files sink wire words BadSchedule Done x m
+ends_as_expected files sink wire words BadSchedule Refused x m = of_words files sink wire words BadSchedule Refused x m
+ends_as_expected files sink wire words BadSchedule BadSchedule x m = of_words files sink wire words BadSchedule BadSchedule x m
+ends_as_expected files sink wire words BadSchedule TooLong x m = of_words files sink wire words BadSchedule TooLong x m
+ends_as_expected files sink wire words BadSchedule StartFailed x m = of_words files sink wire words BadSchedule StartFailed x m
+ends_as_expected files sink wire words BadSchedule DoorFault x m = of_words files sink wire words BadSchedule DoorFault x m
+ends_as_expected files sink wire words TooLong Done x m = of_words files sink wire words TooLong Done x m
+ends_as_expected files sink wire words TooLong Refused x m = of_words files sink wire words TooLong Refused x m
+ends_as_expected files sink wire words TooLong BadSchedule x m = of_words files sink wire words TooLong BadSchedule x m
+ends_as_expected files sink wire words TooLong TooLong x m = of_words files sink wire words TooLong TooLong x m
+ends_as_expected files sink wire words TooLong StartFailed x m = of_words files sink wire words TooLong StartFailed x m
+ends_as_expected files sink wire words TooLong DoorFault x m = of_words files sink wire words TooLong DoorFault x m
+ends_as_expected files sink wire words FileFault Done x m = of_words files sink wire words FileFault Done x m
+ends_as_expected files sink wire words FileFault Refused x m = of_words files sink wire words FileFault Refused x m
+ends_as_expected files sink wire words FileFault BadSchedule x m = of_words files sink wire words FileFault BadSchedule x m
+ends_as_expected files sink wire words FileFault TooLong x m = of_words files sink wire words FileFault TooLong x m
+ends_as_expected files sink wire words FileFault StartFailed x m = of_words files sink wire words FileFault StartFailed x m
+ends_as_expected files sink wire words FileFault DoorFault x m = of_words files sink wire words FileFault DoorFault x m
+ends_as_expected files sink wire words SinkFault Done x m = of_words files sink wire words SinkFault Done x m
+ends_as_expected files sink wire words SinkFault Refused x m = of_words files sink wire words SinkFault Refused x m
+ends_as_expected files sink wire words SinkFault BadSchedule x m = of_words files sink wire words SinkFault BadSchedule x m
+ends_as_expected files sink wire words SinkFault TooLong x m = of_words files sink wire words SinkFault TooLong x m
+ends_as_expected files sink wire words SinkFault StartFailed x m = of_words files sink wire words SinkFault StartFailed x m
+ends_as_expected files sink wire words SinkFault DoorFault x m = of_words files sink wire words SinkFault DoorFault x m
+ends_as_expected files sink wire words WireFault Done x m = of_words files sink wire words WireFault Done x m
+ends_as_expected files sink wire words WireFault Refused x m = of_words files sink wire words WireFault Refused x m
+ends_as_expected files sink wire words WireFault BadSchedule x m = of_words files sink wire words WireFault BadSchedule x m
+ends_as_expected files sink wire words WireFault TooLong x m = of_words files sink wire words WireFault TooLong x m
+ends_as_expected files sink wire words WireFault StartFailed x m = of_words files sink wire words WireFault StartFailed x m
+ends_as_expected files sink wire words WireFault DoorFault x m = of_words files sink wire words WireFault DoorFault x m
+ends_as_expected files sink wire words NoMemory Done x m = of_words files sink wire words NoMemory Done x m
+ends_as_expected files sink wire words NoMemory Refused x m = of_words files sink wire words NoMemory Refused x m
+ends_as_expected files sink wire words NoMemory BadSchedule x m = of_words files sink wire words NoMemory BadSchedule x m
+ends_as_expected files sink wire words NoMemory TooLong x m = of_words files sink wire words NoMemory TooLong x m
+ends_as_expected files sink wire words NoMemory StartFailed x m = of_words files sink wire words NoMemory StartFailed x m
+ends_as_expected files sink wire words NoMemory DoorFault x m = of_words files sink wire words NoMemory DoorFault x m
+ends_as_expected files sink wire words StartFailed Done x m = of_words files sink wire words StartFailed Done x m
+ends_as_expected files sink wire words StartFailed Refused x m = of_words files sink wire words StartFailed Refused x m
+ends_as_expected files sink wire words StartFailed BadSchedule x m = of_words files sink wire words StartFailed BadSchedule x m
+ends_as_expected files sink wire words StartFailed TooLong x m = of_words files sink wire words StartFailed TooLong x m
+ends_as_expected files sink wire words StartFailed StartFailed x m = of_words files sink wire words StartFailed StartFailed x m
+ends_as_expected files sink wire words StartFailed DoorFault x m = of_words files sink wire words StartFailed DoorFault x m
+ends_as_expected files sink wire words DoorFault Done x m = of_words files sink wire words DoorFault Done x m
+ends_as_expected files sink wire words DoorFault Refused x m = of_words files sink wire words DoorFault Refused x m
+ends_as_expected files sink wire words DoorFault BadSchedule x m = of_words files sink wire words DoorFault BadSchedule x m
+ends_as_expected files sink wire words DoorFault TooLong x m = of_words files sink wire words DoorFault TooLong x m
+ends_as_expected files sink wire words DoorFault StartFailed x m = of_words files sink wire words DoorFault StartFailed x m
+ends_as_expected files sink wire words DoorFault DoorFault x m = of_words files sink wire words DoorFault DoorFault x m

@@ -1,3 +1,3 @@
 pub mod Exclusion
 pub mod Meanings
-pub mod Three
+pub mod ShortLists

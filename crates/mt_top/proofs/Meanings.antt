@@ -1,16 +1,17 @@
--- From what a status says of the commands to what it says of their texts, and of the words.
+-- From what a status says of the commands to what it says of their texts, of the files and of the words.
 use Rattle.std.proofs.Common.{◌≡◌, ℕ, List, Option, None, Some, IfSome}
 use Rattle.std.specs.List.{AllByRecursion}
 use Rattle.mt_outside.specs.Message.{Message, IsFaithful}
-use Rattle.mt_small.specs.Readable.{AsksForTarget}
 use Rattle.mt_small.specs.declared.application.Small.{Small}
 use Rattle.mt_small.specs.declared.command.SmallCommand.{SmallCommand}
 use Rattle.mt_small.specs.Application.{IsSmall, Spells}
+use Rattle.mt_small.specs.Readable.{AsksForTarget}
 use Rattle.mt_small.specs.Schedule.{SpellsSchedule}
 use Rattle.mt_top.specs.declared.status.Status.{Status}
 use Rattle.mt_top.specs.declared.status.Status.TheVariants.{Done, Refused, Usage, BadSchedule, FileFault, SinkFault, WireFault, NoMemory, TooLong, StartFailed, DoorFault}
-use Rattle.mt_top.specs.Words.{IsReplay}
-use Rattle.mt_top.specs.Replay.{FilesSeen, Effects, IsRead, BothRead, BothSpelled, StatusMeans, TextsMean, CommandsMean}
+use Rattle.mt_top.specs.Words.{Asked, check, replay, Asks}
+use Rattle.mt_top.specs.Texts.{FilesSeen, IsRead}
+use Rattle.mt_top.specs.Meaning.{SinkSeen, WireSeen, BothRead, BothSpelled, StatusMeans, CheckMeans, ReplayMeans, AskedMeans, TextsMean, CommandsMean}
 
 -- where the commands ask for targets
 pub with_targets : (commands : List SmallCommand) (messages : Option (List Message)) (X : Type 0) → AllByRecursion AsksForTarget commands
@@ -18,46 +19,65 @@ pub with_targets : (commands : List SmallCommand) (messages : Option (List Messa
 with_targets commands None X asks holds = holds
 with_targets commands (Some ms) X asks holds = holds asks
 
-pub of_texts : (effects : Effects) (application schedule : List ℕ) (small : Small) (commands : List SmallCommand) (status : Status)
+pub of_texts : (sink : SinkSeen) (wire : WireSeen) (application schedule : List ℕ) (small : Small) (commands : List SmallCommand) (status : Status)
     → IsSmall small → Spells application small → SpellsSchedule schedule commands
-    → CommandsMean effects small commands status → TextsMean effects application schedule status
-of_texts effects a s small commands Done fits app_is sched_is means = record { small = small; commands = commands; fits = fits; application_is = app_is; schedule_is = sched_is; holds = means }
-of_texts effects a s small commands WireFault fits app_is sched_is means = record { small = small; commands = commands; fits = fits; application_is = app_is; schedule_is = sched_is; holds = means }
-of_texts effects a s small commands SinkFault fits app_is sched_is means = means
-of_texts effects a s small commands NoMemory fits app_is sched_is means = means
-of_texts effects a s small commands Refused fits app_is sched_is means = absurd means
-of_texts effects a s small commands Usage fits app_is sched_is means = absurd means
-of_texts effects a s small commands BadSchedule fits app_is sched_is means = absurd means
-of_texts effects a s small commands FileFault fits app_is sched_is means = absurd means
-of_texts effects a s small commands TooLong fits app_is sched_is means = absurd means
-of_texts effects a s small commands StartFailed fits app_is sched_is means = absurd means
-of_texts effects a s small commands DoorFault fits app_is sched_is means = absurd means
+    → CommandsMean sink wire small commands status → TextsMean sink wire application schedule status
+of_texts sink wire a s small commands Done fits app_is sched_is means = record { small = small; commands = commands; fits = fits; application_is = app_is; schedule_is = sched_is; holds = means }
+of_texts sink wire a s small commands WireFault fits app_is sched_is means = record { small = small; commands = commands; fits = fits; application_is = app_is; schedule_is = sched_is; holds = means }
+of_texts sink wire a s small commands SinkFault fits app_is sched_is means = means
+of_texts sink wire a s small commands NoMemory fits app_is sched_is means = means
+of_texts sink wire a s small commands Refused fits app_is sched_is means = absurd means
+of_texts sink wire a s small commands Usage fits app_is sched_is means = absurd means
+of_texts sink wire a s small commands BadSchedule fits app_is sched_is means = absurd means
+of_texts sink wire a s small commands FileFault fits app_is sched_is means = absurd means
+of_texts sink wire a s small commands TooLong fits app_is sched_is means = absurd means
+of_texts sink wire a s small commands StartFailed fits app_is sched_is means = absurd means
+of_texts sink wire a s small commands DoorFault fits app_is sched_is means = absurd means
 
-both_read : (files : FilesSeen) (effects : Effects) (words : List (List ℕ)) (a s application schedule : List ℕ) (status : Status)
-    → IsReplay words a s → IsRead files a application → IsRead files s schedule → TextsMean effects application schedule status
-    → BothRead files words (λ x y. TextsMean effects x y status)
-both_read files effects words a s application schedule status is_replay read_a read_s means = record {
-  application_name = a;
-  schedule_name = s;
-  is_replay = is_replay;
-  application = application;
-  schedule = schedule;
-  application_read = read_a;
-  schedule_read = read_s;
-  holds = means;
-}
+both_read : (files : FilesSeen) (sink : SinkSeen) (wire : WireSeen) (a s application schedule : List ℕ) (status : Status)
+    → IsRead files a application → IsRead files s schedule → TextsMean sink wire application schedule status
+    → BothRead files a s (λ x y. TextsMean sink wire x y status)
+both_read files sink wire a s application schedule status read_a read_s means =
+    record { application = application; schedule = schedule; application_read = read_a; schedule_read = read_s; holds = means }
 
-pub of_words : (files : FilesSeen) (effects : Effects) (words : List (List ℕ)) (a s application schedule : List ℕ) (status : Status)
-    → IsReplay words a s → IsRead files a application → IsRead files s schedule
-    → TextsMean effects application schedule status → StatusMeans files effects words status
-of_words files effects words a s application schedule Done is_replay read_a read_s means = both_read files effects words a s application schedule Done is_replay read_a read_s means
-of_words files effects words a s application schedule Refused is_replay read_a read_s means = both_read files effects words a s application schedule Refused is_replay read_a read_s means
-of_words files effects words a s application schedule BadSchedule is_replay read_a read_s means = both_read files effects words a s application schedule BadSchedule is_replay read_a read_s means
-of_words files effects words a s application schedule WireFault is_replay read_a read_s means = both_read files effects words a s application schedule WireFault is_replay read_a read_s means
-of_words files effects words a s application schedule SinkFault is_replay read_a read_s means = means
-of_words files effects words a s application schedule NoMemory is_replay read_a read_s means = means
-of_words files effects words a s application schedule Usage is_replay read_a read_s means = absurd means
-of_words files effects words a s application schedule FileFault is_replay read_a read_s means = absurd means
-of_words files effects words a s application schedule TooLong is_replay read_a read_s means = absurd means
-of_words files effects words a s application schedule StartFailed is_replay read_a read_s means = absurd means
-of_words files effects words a s application schedule DoorFault is_replay read_a read_s means = absurd means
+pub of_files : (files : FilesSeen) (sink : SinkSeen) (wire : WireSeen) (a s application schedule : List ℕ) (status : Status)
+    → IsRead files a application → IsRead files s schedule → TextsMean sink wire application schedule status → ReplayMeans files sink wire a s status
+of_files files sink wire a s x y Done read_a read_s means = both_read files sink wire a s x y Done read_a read_s means
+of_files files sink wire a s x y Refused read_a read_s means = both_read files sink wire a s x y Refused read_a read_s means
+of_files files sink wire a s x y BadSchedule read_a read_s means = both_read files sink wire a s x y BadSchedule read_a read_s means
+of_files files sink wire a s x y WireFault read_a read_s means = both_read files sink wire a s x y WireFault read_a read_s means
+of_files files sink wire a s x y SinkFault read_a read_s means = means
+of_files files sink wire a s x y NoMemory read_a read_s means = means
+of_files files sink wire a s x y Usage read_a read_s means = absurd means
+of_files files sink wire a s x y FileFault read_a read_s means = absurd means
+of_files files sink wire a s x y TooLong read_a read_s means = absurd means
+of_files files sink wire a s x y StartFailed read_a read_s means = absurd means
+of_files files sink wire a s x y DoorFault read_a read_s means = absurd means
+
+pub of_replay : (files : FilesSeen) (sink : SinkSeen) (wire : WireSeen) (words : List (List ℕ)) (a s : List ℕ) (status : Status)
+    → Asks words (replay a s) → ReplayMeans files sink wire a s status → StatusMeans files sink wire words status
+of_replay files sink wire words a s SinkFault asks means = means
+of_replay files sink wire words a s NoMemory asks means = tt
+of_replay files sink wire words a s Usage asks means = absurd means
+of_replay files sink wire words a s Done asks means = (replay a s, asks, means)
+of_replay files sink wire words a s Refused asks means = (replay a s, asks, means)
+of_replay files sink wire words a s BadSchedule asks means = (replay a s, asks, means)
+of_replay files sink wire words a s FileFault asks means = (replay a s, asks, means)
+of_replay files sink wire words a s WireFault asks means = (replay a s, asks, means)
+of_replay files sink wire words a s TooLong asks means = (replay a s, asks, means)
+of_replay files sink wire words a s StartFailed asks means = absurd means
+of_replay files sink wire words a s DoorFault asks means = absurd means
+
+pub of_check : (files : FilesSeen) (sink : SinkSeen) (wire : WireSeen) (words : List (List ℕ)) (a : List ℕ) (status : Status)
+    → Asks words (check a) → CheckMeans files sink a status → StatusMeans files sink wire words status
+of_check files sink wire words a SinkFault asks means = means
+of_check files sink wire words a NoMemory asks means = tt
+of_check files sink wire words a Refused asks means = (check a, asks, means)
+of_check files sink wire words a FileFault asks means = (check a, asks, means)
+of_check files sink wire words a TooLong asks means = (check a, asks, means)
+of_check files sink wire words a Usage asks means = absurd means
+of_check files sink wire words a Done asks means = absurd means
+of_check files sink wire words a BadSchedule asks means = absurd means
+of_check files sink wire words a WireFault asks means = absurd means
+of_check files sink wire words a StartFailed asks means = absurd means
+of_check files sink wire words a DoorFault asks means = absurd means

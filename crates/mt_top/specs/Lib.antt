@@ -1,5 +1,7 @@
 pub mod Expected
+pub mod FileName
 pub mod Lines
-pub mod Replay
+pub mod Meaning
 pub mod Status
+pub mod Texts
 pub mod Words

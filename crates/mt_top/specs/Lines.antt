@@ -1,5 +1,9 @@
 -- The lines that a run writes where it has no other output.
-use Rattle.std.specs.Prelude.{◌++◌, ℕ, List, [], ◌∷◌, codes, decimal}
+use Rattle.std.specs.Prelude.{◌++◌, ℕ, List, codes, decimal, Result, Ok, Err}
+use Rattle.mt_tree.specs.declared.place.Place.{Place}
+use Rattle.mt_lexer.specs.declared.refusal.LexRefusal.{LexRefusal}
+use Rattle.mt_lexer.specs.declared.refusal.LexRefusal.TheVariants.{NotUtf8, BadCharacter, BadEscape, Unclosed, NumberTooLarge, TooManyTokens, NoMemory}
+use Rattle.mt_lexer.specs.Tokens.{Spelled}
 
 unfoldable pub usage_text : List ℕ
 usage_text =
@@ -19,3 +23,21 @@ too_long_line = codes "file too long\n"
 -- the first line that is no command, counted from 1
 abbrev pub bad_line : ℕ → List ℕ
 bad_line number = codes "bad schedule line " ++ decimal number ++ codes "\n"
+
+abbrev pub refused_at : List ℕ → Place → List ℕ
+refused_at rule place = (codes "refused " ++ rule ++ codes " at ") ++ (decimal place.line ++ codes ":" ++ decimal place.column) ++ codes "\n"
+
+-- why a text has no spelling, and where
+abbrev pub spelling_line : LexRefusal → List ℕ
+spelling_line (NotUtf8 place) = refused_at (codes "NotUtf8") place
+spelling_line (BadCharacter place) = refused_at (codes "BadCharacter") place
+spelling_line (BadEscape place) = refused_at (codes "BadEscape") place
+spelling_line (Unclosed place) = refused_at (codes "Unclosed") place
+spelling_line (NumberTooLarge place) = refused_at (codes "NumberTooLarge") place
+spelling_line (TooManyTokens place) = refused_at (codes "TooManyTokens") place
+spelling_line NoMemory = not_built_line
+
+-- the line for a text that is not accepted, by how it reads
+abbrev pub refusal_line : Result Spelled LexRefusal → List ℕ
+refusal_line (Ok spelled) = not_built_line
+refusal_line (Err refusal) = spelling_line refusal

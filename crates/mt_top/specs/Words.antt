@@ -1,13 +1,23 @@
 -- The words of a command, as the program is given them.
-use Rattle.std.specs.Prelude.{◌≡◌, ◌==◌, ℕ, Bool, true, false, not, List, [], ◌∷◌, codes}
+use Rattle.std.specs.Prelude.{◌≡◌, ℕ, true, List, [], ◌∷◌, codes}
+use Rattle.mt_top.specs.declared.words.Command.{Command}
+use Rattle.mt_top.specs.declared.words.Command.TheVariants.{Check, Replay}
+use Rattle.mt_top.specs.FileName.{is_file_name}
 
--- the name of a file is not empty, and does not begin with a dash
-abbrev pub is_file_name : List ℕ → Bool
-is_file_name [] = false
-is_file_name (byte ∷ bytes) = not (byte == 45)
+-- what words may ask for, with the names of the files
+pub data Asked : Type 0 where
+  check : List ℕ → Asked
+  replay : List ℕ → List ℕ → Asked
 
--- the words ask for a replay of these two files
-pub record IsReplay (words : List (List ℕ)) (application schedule : List ℕ) : Type 0 where
-  pub words_are : words ≡ codes "replay" ∷ application ∷ schedule ∷ []
-  pub application_name : is_file_name application ≡ true
-  pub schedule_name : is_file_name schedule ≡ true
+abbrev pub Asks : List (List ℕ) → Asked → Type 0
+Asks words (check application) = (words ≡ codes "check" ∷ application ∷ []) × (is_file_name application ≡ true)
+Asks words (replay application schedule) =
+    (words ≡ codes "replay" ∷ application ∷ schedule ∷ []) × (is_file_name application ≡ true) × (is_file_name schedule ≡ true)
+
+abbrev pub AsksNothing : List (List ℕ) → Type 0
+AsksNothing words = (asked : Asked) → Asks words asked → ⊥
+
+-- what a command asks for
+abbrev pub asked_by : Command → Asked
+asked_by (Check application) = check application.now
+asked_by (Replay application schedule) = replay application.now schedule.now

@@ -1,22 +1,25 @@
 ghost use Rattle.std.specs.Prelude.{◌≡◌, ◌⊎◌, ◌≤◌, ℕ, List, None, map, string_bytes};
 ghost use Rattle.mt_top.specs.declared.status.Status.{Status};
 ghost use Rattle.mt_top.specs.Expected.{Expected, IsFault};
-ghost use Rattle.mt_top.specs.Replay.{StatusMeans, ModeIsFor};
+ghost use Rattle.mt_top.specs.Meaning.{StatusMeans, ModeIsFor};
 
-use crate::lines::{file_fault, too_long, usage};
+use crate::checking::check;
+use crate::lines::usage;
 use crate::output::write_output;
-use crate::play::play_texts;
+use crate::replaying::replay;
 use crate::status::Status;
-use crate::texts::read_texts;
-use crate::words::read_words;
-use mt_outside::{Door, Files, ReadFault, Sink, Wire};
+use crate::words::{Command, read_words};
+use mt_outside::{Door, Files, Sink, Wire};
 use std::alloc::Global;
 
 /// Carries out the command that the words spell. They are the words after the program's name.
 ///
-/// The one command so far is `replay APP SCHEDULE`: it reads the small application in the file APP and the schedule in the file
-/// SCHEDULE, each at most 1,048,576 bytes, plays the schedule over the wire, and writes the transcript. No name of a file is
-/// empty or begins with a dash. All other words are `Usage`.
+/// - `check APP` reads the application in the file APP, and refuses it with its first refusal of spelling, or else as one
+///   that uses what is not built.
+/// - `replay APP SCHEDULE` reads the small application in the file APP and the schedule in the file SCHEDULE, plays the schedule
+///   over the wire, and writes the transcript.
+///
+/// A file has at most 1,048,576 bytes. No name of a file is empty or begins with a dash. All other words are `Usage`.
 ///
 /// The words come first, then the application's file, the schedule's file, the application's text, the schedule's text, the
 /// wire and the run: the first of them that fails gives the status. The sink holds nothing but what is said of the status.
@@ -36,11 +39,12 @@ pub fn run<F: Files, O: Sink, W: Wire, D: Door>(
     }) (record {
       held = O.held out.old;
       held_after = O.held out.new;
-      sink_faults = O.faults out.old;
-      sink_faults_after = O.faults out.new;
-      messages_after = W.messages wire.new;
-      wire_faults = W.faults wire.old;
-      wire_faults_after = W.faults wire.new;
+      faults = O.faults out.old;
+      faults_after = O.faults out.new;
+    }) (record {
+      messages = W.messages wire.new;
+      faults = W.faults wire.old;
+      faults_after = W.faults wire.new;
     }) (map string_bytes words.now) result }
     // Where the files tell their contents, the run ends as expected, or with a fault of the outside or want of memory.
     ensures exact { (expected : Status) → Expected (record {
@@ -73,11 +77,12 @@ fn carry_out<F: Files, O: Sink, W: Wire>(
     }) (record {
       held = O.held out.old;
       held_after = O.held out.new;
-      sink_faults = O.faults out.old;
-      sink_faults_after = O.faults out.new;
-      messages_after = W.messages wire.new;
-      wire_faults = W.faults wire.old;
-      wire_faults_after = W.faults wire.new;
+      faults = O.faults out.old;
+      faults_after = O.faults out.new;
+    }) (record {
+      messages = W.messages wire.new;
+      faults = W.faults wire.old;
+      faults_after = W.faults wire.new;
     }) (map string_bytes words.now) result }
     ensures mode { ModeIsFor (W.mode wire.new) result }
     ensures contents { F.contents files.new ≡ F.contents files.old }
@@ -85,25 +90,14 @@ fn carry_out<F: Files, O: Sink, W: Wire>(
     ensures sink_later { O.faults out.old ≤ O.faults out.new }
     ensures wire_later { W.faults wire.old ≤ W.faults wire.new }
 {
-    let replay = match read_words(words) {
-        Some(replay) => replay,
-        None => {
-            return match write_output(out, usage()) {
-                Ok(()) => Status::Usage,
-                Err(status) => status,
-            };
+    match read_words(words) {
+        Some(Command::Check(application)) => check(alloc, application, files, out),
+        Some(Command::Replay(application, schedule)) => {
+            replay(alloc, application, schedule, files, out, wire)
         }
-    };
-    match read_texts(alloc, &replay, files) {
-        Ok(texts) => play_texts(alloc, &texts.application, &texts.schedule, out, wire),
-        Err(ReadFault::Failed) => match write_output(out, file_fault()) {
-            Ok(()) => Status::FileFault,
+        None => match write_output(out, usage()) {
+            Ok(()) => Status::Usage,
             Err(status) => status,
         },
-        Err(ReadFault::TooLong) => match write_output(out, too_long()) {
-            Ok(()) => Status::TooLong,
-            Err(status) => status,
-        },
-        Err(ReadFault::NoMemory) => Status::NoMemory,
     }
 }

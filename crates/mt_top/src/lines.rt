@@ -1,8 +1,10 @@
-ghost use Rattle.std.specs.Prelude.{◌≡◌, ◌++◌, OnOk, IfOk, decimal};
-ghost use Rattle.mt_top.specs.Lines.{usage_text, not_built_line, file_fault_line, too_long_line, bad_line};
+ghost use Rattle.std.specs.Prelude.{◌≡◌, ◌++◌, ◌≢◌, IfOk, OnOk, Err, codes, decimal};
+ghost use Rattle.mt_lexer.specs.declared.refusal.LexRefusal.TheVariants as LexRefusal;
+ghost use Rattle.mt_top.specs.Lines.{usage_text, not_built_line, file_fault_line, too_long_line, bad_line, refused_at, spelling_line};
 
+use mt_lexer::LexRefusal;
 use mt_small::{append, append_number};
-use mt_tree::NoMemory;
+use mt_tree::{NoMemory, Place};
 use std::alloc::Global;
 
 /// What is written where the words are no command.
@@ -46,4 +48,45 @@ pub fn bad_schedule_line(alloc: Global, number: u32) -> Result<Vec<u8>, NoMemory
     append_number(alloc, &mut line, u64::from(number))?;
     append(&mut line, b"\n")?;
     Ok(line)
+}
+
+fn append_rule(into: &mut Vec<u8>, rule: &[u8]) -> Result<(), NoMemory>
+    ensures { OnOk result (into.new.items ≡ into.old.items ++ (codes "refused " ++ rule.now ++ codes " at ")) }
+{
+    append(into, b"refused ")?;
+    append(into, rule)?;
+    append(into, b" at ")
+}
+
+fn append_place(alloc: Global, into: &mut Vec<u8>, place: Place) -> Result<(), NoMemory>
+    ensures { OnOk result (into.new.items ≡ into.old.items ++ (decimal place.line ++ codes ":" ++ decimal place.column)) }
+{
+    append_number(alloc, into, u64::from(place.line))?;
+    append(into, b":")?;
+    append_number(alloc, into, u64::from(place.column))
+}
+
+fn refused_line(alloc: Global, rule: &[u8], place: Place) -> Result<Vec<u8>, NoMemory>
+    ensures { IfOk result (λ line. line.items ≡ refused_at rule.now place) }
+{
+    let mut line = Vec::new(alloc);
+    append_rule(&mut line, rule)?;
+    append_place(alloc, &mut line, place)?;
+    append(&mut line, b"\n")?;
+    Ok(line)
+}
+
+/// What is written where a text has no spelling: the rule that it breaks, and the place.
+pub fn spelling_line(alloc: Global, refusal: LexRefusal) -> Result<Vec<u8>, NoMemory>
+    ensures { IfOk result (λ line. (refusal ≢ LexRefusal.NoMemory) × (line.items ≡ spelling_line refusal)) }
+{
+    match refusal {
+        LexRefusal::NotUtf8(place) => refused_line(alloc, b"NotUtf8", place),
+        LexRefusal::BadCharacter(place) => refused_line(alloc, b"BadCharacter", place),
+        LexRefusal::BadEscape(place) => refused_line(alloc, b"BadEscape", place),
+        LexRefusal::Unclosed(place) => refused_line(alloc, b"Unclosed", place),
+        LexRefusal::NumberTooLarge(place) => refused_line(alloc, b"NumberTooLarge", place),
+        LexRefusal::TooManyTokens(place) => refused_line(alloc, b"TooManyTokens", place),
+        LexRefusal::NoMemory => Err(NoMemory),
+    }
 }

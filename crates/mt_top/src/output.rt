@@ -1,6 +1,6 @@
 ghost use Rattle.std.specs.Prelude.{◌≡◌, ◌≤◌, IfErr, OnOk};
 ghost use Rattle.std.specs.Io.KnownBytes.{append_known};
-ghost use Rattle.mt_top.specs.Replay.{IsOutputFault};
+ghost use Rattle.mt_top.specs.Meaning.{IsOutputFault};
 
 use crate::status::Status;
 use mt_outside::{SendFault, Sink, write_all};

@@ -1,12 +1,13 @@
-ghost use Rattle.std.specs.Prelude.{◌≡◌, ◌≤◌, None, IfErr, OnOk};
+ghost use Rattle.std.specs.Prelude.{◌≡◌, ◌≤◌, None, IfErr, OnOk, length};
 ghost use Rattle.std.specs.List.{AllByRecursion};
 ghost use Rattle.std.specs.Io.KnownBytes.{append_known};
 ghost use Rattle.mt_small.specs.Readable.{AsksForTarget};
 ghost use Rattle.mt_top.specs.Lines.{bad_line};
-ghost use Rattle.mt_top.specs.Replay.{TextsMean, CommandsMean, ModeIsFor, IsOutputFault};
+ghost use Rattle.mt_top.specs.Meaning.{TextsMean, CommandsMean, ModeIsFor, IsOutputFault};
 
-use crate::lines::{bad_schedule_line, not_built};
+use crate::lines::bad_schedule_line;
 use crate::output::write_output;
+use crate::refusing::refuse;
 use crate::status::Status;
 use mt_outside::{SendFault, Sink, Wire};
 use mt_session::{Played, play_small};
@@ -25,14 +26,16 @@ pub fn play_texts<O: Sink, W: Wire>(
     wire: &mut W,
 ) -> Status
     requires idle { W.mode wire.old ≡ None }
+    requires short { length application.now ≤ 1048576 }
     ensures meaning { TextsMean (record {
       held = O.held out.old;
       held_after = O.held out.new;
-      sink_faults = O.faults out.old;
-      sink_faults_after = O.faults out.new;
-      messages_after = W.messages wire.new;
-      wire_faults = W.faults wire.old;
-      wire_faults_after = W.faults wire.new;
+      faults = O.faults out.old;
+      faults_after = O.faults out.new;
+    }) (record {
+      messages = W.messages wire.new;
+      faults = W.faults wire.old;
+      faults_after = W.faults wire.new;
     }) application.now schedule.now result }
     ensures mode { ModeIsFor (W.mode wire.new) result }
     ensures sink_later { O.faults out.old ≤ O.faults out.new }
@@ -41,7 +44,7 @@ pub fn play_texts<O: Sink, W: Wire>(
     let small = match read_small(alloc, application) {
         Ok(small) => small,
         Err(SmallRefusal::NotSmall) => {
-            return match write_output(out, not_built()) {
+            return match refuse(alloc, application, out) {
                 Ok(()) => Status::Refused,
                 Err(status) => status,
             };
@@ -83,11 +86,12 @@ fn play_commands<O: Sink, W: Wire>(
     ensures meaning { CommandsMean (record {
       held = O.held out.old;
       held_after = O.held out.new;
-      sink_faults = O.faults out.old;
-      sink_faults_after = O.faults out.new;
-      messages_after = W.messages wire.new;
-      wire_faults = W.faults wire.old;
-      wire_faults_after = W.faults wire.new;
+      faults = O.faults out.old;
+      faults_after = O.faults out.new;
+    }) (record {
+      messages = W.messages wire.new;
+      faults = W.faults wire.old;
+      faults_after = W.faults wire.new;
     }) small.now commands.now result }
     ensures mode { ModeIsFor (W.mode wire.new) result }
     ensures sink_later { O.faults out.old ≤ O.faults out.new }

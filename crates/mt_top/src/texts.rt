@@ -1,7 +1,7 @@
 ghost use Rattle.std.specs.Prelude.{◌≡◌, ◌≤◌, ℕ, List, IfOk, IsErrOf};
-ghost use Rattle.mt_top.specs.Replay.{IsRead, IsOneFailed, IsOneTooLong};
+ghost use Rattle.mt_top.specs.Meaning.{HasOneFailed, IsOneTooLong};
+ghost use Rattle.mt_top.specs.Texts.{IsRead};
 
-use crate::words::Replay;
 use mt_outside::{Files, ReadFault, read_file};
 use std::alloc::Global;
 
@@ -15,36 +15,37 @@ pub struct Texts {
 /// Reads both files whole, the application first.
 pub fn read_texts<F: Files>(
     alloc: Global,
-    replay: &Replay<'_>,
+    application: &str,
+    schedule: &str,
     files: &mut F,
 ) -> Result<Texts, ReadFault>
     ensures application { IfOk result (λ texts. IsRead (record {
       contents = F.contents files.old;
       faults = F.faults files.old;
       faults_after = F.faults files.new;
-    }) replay.now.application.now texts.application.items) }
+    }) application.now texts.application.items) }
     ensures schedule { IfOk result (λ texts. IsRead (record {
       contents = F.contents files.old;
       faults = F.faults files.old;
       faults_after = F.faults files.new;
-    }) replay.now.schedule.now texts.schedule.items) }
-    ensures failed { IsErrOf result ReadFault.Failed → IsOneFailed (record {
+    }) schedule.now texts.schedule.items) }
+    ensures failed { IsErrOf result ReadFault.Failed → HasOneFailed (record {
       contents = F.contents files.old;
       faults = F.faults files.old;
       faults_after = F.faults files.new;
-    }) replay.now.application.now replay.now.schedule.now }
+    }) application.now schedule.now }
     ensures too_long { IsErrOf result ReadFault.TooLong → IsOneTooLong (record {
       contents = F.contents files.old;
       faults = F.faults files.old;
       faults_after = F.faults files.new;
-    }) replay.now.application.now replay.now.schedule.now }
+    }) application.now schedule.now }
     ensures contents { F.contents files.new ≡ F.contents files.old }
     ensures later { (name : List ℕ) → F.faults files.old name ≤ F.faults files.new name }
 {
-    let application = read_file(alloc, files, replay.application)?;
-    let schedule = read_file(alloc, files, replay.schedule)?;
+    let text = read_file(alloc, files, application)?;
+    let lines = read_file(alloc, files, schedule)?;
     Ok(Texts {
-        application,
-        schedule,
+        application: text,
+        schedule: lines,
     })
 }

@@ -1,11 +1,14 @@
-ghost use Rattle.std.specs.Prelude.{◌≡◌, ℕ, List, map, string_bytes, IfSome, IfNone};
-ghost use Rattle.mt_top.specs.Words.{is_file_name, IsReplay};
+ghost use Rattle.std.specs.Prelude.{◌≡◌, ℕ, List, true, map, string_bytes, IfSome, IfNone};
+ghost use Rattle.mt_top.specs.FileName.{is_file_name};
+ghost use Rattle.mt_top.specs.Words.{Asks, AsksNothing, asked_by};
 
-/// The files of a replay.
+/// A command, with the names of its files.
 #[derive(Clone, Copy, Debug)]
-pub struct Replay<'a> {
-    pub application: &'a str,
-    pub schedule: &'a str,
+pub enum Command<'a> {
+    /// `check APP`
+    Check(&'a str),
+    /// `replay APP SCHEDULE`
+    Replay(&'a str, &'a str),
 }
 
 fn is_file_name(word: &str) -> bool
@@ -17,20 +20,25 @@ fn is_file_name(word: &str) -> bool
     }
 }
 
-/// The files of the replay that the words ask for. None where they are no command.
-pub fn read_words(words: &[String]) -> Option<Replay<'_>>
-    ensures found { IfSome result (λ replay. IsReplay (map string_bytes words.now) replay.application.now replay.schedule.now) }
-    ensures none { IfNone result ((application schedule : List ℕ) → IsReplay (map string_bytes words.now) application schedule → ⊥) }
+/// The command that the words ask for. None where they ask for none.
+pub fn read_words(words: &[String]) -> Option<Command<'_>>
+    ensures found { IfSome result (λ command. Asks (map string_bytes words.now) (asked_by command)) }
+    ensures none { IfNone result (AsksNothing (map string_bytes words.now)) }
 {
     match words {
+        [command, application] => {
+            let application = application.as_str();
+            if command.as_str() == "check" && is_file_name(application) {
+                Some(Command::Check(application))
+            } else {
+                None
+            }
+        }
         [command, application, schedule] => {
             let application = application.as_str();
             let schedule = schedule.as_str();
             if command.as_str() == "replay" && is_file_name(application) && is_file_name(schedule) {
-                Some(Replay {
-                    application,
-                    schedule,
-                })
+                Some(Command::Replay(application, schedule))
             } else {
                 None
             }

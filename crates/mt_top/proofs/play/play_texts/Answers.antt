@@ -5,7 +5,7 @@ use Rattle.mt_top.proofs.play.play_texts.Goals as goal
 pub returns-in-Ok-read_small_schedule-clause-meaning :
     goal.returns-in-Ok-read_small_schedule-clause-meaning
 returns-in-Ok-read_small_schedule-clause-meaning g c =
-    of_texts _ _ _ _ _ _ c.in-Ok.ensures.read.0 c.in-Ok.ensures.read.1 c.in-Ok-read_small_schedule.ensures.read c.play_commands.ensures.meaning
+    of_texts _ _ _ _ _ _ _ c.in-Ok.ensures.read.0 c.in-Ok.ensures.read.1 c.in-Ok-read_small_schedule.ensures.read c.play_commands.ensures.meaning
 
 pub returns-in-Ok-write_bad_line-clause-meaning : goal.returns-in-Ok-write_bad_line-clause-meaning
 returns-in-Ok-write_bad_line-clause-meaning g c = (
