@@ -1,5 +1,5 @@
 -- From what a status says of the commands to what it says of their texts, of the files and of the words.
-use Rattle.std.proofs.Common.{◌≡◌, ℕ, List, Option, None, Some, IfSome}
+use Rattle.std.proofs.Common.{ℕ, List, Option, None, Some, IfSome}
 use Rattle.std.specs.List.{AllByRecursion}
 use Rattle.mt_outside.specs.Message.{Message, IsFaithful}
 use Rattle.mt_small.specs.declared.application.Small.{Small}
@@ -9,9 +9,9 @@ use Rattle.mt_small.specs.Readable.{AsksForTarget}
 use Rattle.mt_small.specs.Schedule.{SpellsSchedule}
 use Rattle.mt_top.specs.declared.status.Status.{Status}
 use Rattle.mt_top.specs.declared.status.Status.TheVariants.{Done, Refused, Usage, BadSchedule, FileFault, SinkFault, WireFault, NoMemory, TooLong, StartFailed, DoorFault}
-use Rattle.mt_top.specs.Words.{Asked, check, replay, Asks}
+use Rattle.mt_top.specs.Words.{check, replay, Asks}
 use Rattle.mt_top.specs.Texts.{FilesSeen, IsRead}
-use Rattle.mt_top.specs.Meaning.{SinkSeen, WireSeen, BothRead, BothSpelled, StatusMeans, CheckMeans, ReplayMeans, AskedMeans, TextsMean, CommandsMean}
+use Rattle.mt_top.specs.Meaning.{SinkSeen, WireSeen, BothRead, StatusMeans, CheckMeans, ReplayMeans, TextsMean, CommandsMean}
 
 -- where the commands ask for targets
 pub with_targets : (commands : List SmallCommand) (messages : Option (List Message)) (X : Type 0) → AllByRecursion AsksForTarget commands

@@ -1,7 +1,7 @@
 -- What a run is to end with, faults and want of memory aside, where the files tell their contents.
 use Rattle.std.specs.Prelude.{◌⊎◌, ℕ, List, ⊤}
 use Rattle.mt_top.specs.declared.status.Status.{Status}
-use Rattle.mt_top.specs.declared.status.Status.TheVariants.{Done, Refused, Usage, BadSchedule, FileFault, SinkFault, WireFault, NoMemory, TooLong, StartFailed, DoorFault}
+use Rattle.mt_top.specs.declared.status.Status.TheVariants.{Done, Refused, Usage, BadSchedule, FileFault, SinkFault, WireFault, NoMemory, TooLong}
 use Rattle.mt_top.specs.Words.{Asked, check, replay, Asks, AsksNothing}
 use Rattle.mt_top.specs.Texts.{FilesSeen, Holds, HoldsMore, IsSmallText, IsNotSmallText, IsScheduleText, IsNotScheduleText}
 

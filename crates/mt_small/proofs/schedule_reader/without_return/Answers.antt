@@ -1,4 +1,4 @@
-use Rattle.std.proofs.Common.{◌≡◌, ◌∙◌, ap, unwrap_or, Option, None, Some, List, ℕ, Bor, option_copied, refl, sym}
+use Rattle.std.proofs.Common.{◌≡◌, ◌∙◌, ap, unwrap_or, Option, None, Some, List, ℕ, Bor, option_copied, refl}
 use Rattle.mt_small.proofs.Schedules.{without_return_is}
 use Rattle.mt_small.proofs.schedule_reader.without_return.Goals as goal
 

@@ -1,4 +1,4 @@
-use Rattle.std.proofs.Common.{◌≡◌, subst, map, string_bytes}
+use Rattle.std.proofs.Common.{subst, map, string_bytes}
 use Rattle.mt_top.specs.declared.words.Command.{Command}
 use Rattle.mt_top.specs.Words.{Asks, asked_by}
 use Rattle.mt_top.proofs.Meanings.{of_check, of_replay}

@@ -1,4 +1,3 @@
-use Rattle.std.proofs.Common.{◌≡◌}
 use Rattle.mt_top.proofs.Meanings.{with_targets}
 use Rattle.mt_top.proofs.play.play_commands.Goals as goal
 

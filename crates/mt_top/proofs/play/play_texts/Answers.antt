@@ -1,4 +1,4 @@
-use Rattle.std.proofs.Common.{◌≡◌, Err, ap}
+use Rattle.std.proofs.Common.{Err, ap}
 use Rattle.mt_top.proofs.Meanings.{of_texts}
 use Rattle.mt_top.proofs.play.play_texts.Goals as goal
 

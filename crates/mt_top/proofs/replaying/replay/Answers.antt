@@ -1,4 +1,3 @@
-use Rattle.std.proofs.Common.{◌≡◌}
 use Rattle.mt_top.proofs.Meanings.{of_files}
 use Rattle.mt_top.proofs.replaying.replay.Goals as goal
 

@@ -1,4 +1,4 @@
-use Rattle.std.proofs.Common.{◌≡◌, refl, sym, ◌∙◌, string_bytes, codes}
+use Rattle.std.proofs.Common.{refl, sym, ◌∙◌, string_bytes, codes}
 use Rattle.std.proofs.lemmas.Slice.Eq.{bytes_eq-Decides}
 use Rattle.mt_top.proofs.ShortLists.{map_of_two, map_of_three}
 use Rattle.mt_top.proofs.words.read_words.Goals as goal
