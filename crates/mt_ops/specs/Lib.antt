@@ -1,0 +1,6 @@
+pub mod Equality
+pub mod Errors
+pub mod Numbers
+pub mod Order
+pub mod Operators
+pub mod Texts
