@@ -1,0 +1,17 @@
+pub mod Levels
+pub mod Steps
+pub mod Starts
+pub mod Parts
+pub mod Complete
+pub mod Open
+pub mod Rows
+pub mod SafeStatements
+pub mod SafeWords
+pub mod SafeValues
+pub mod Sound
+pub mod Unique
+pub mod Stands
+pub mod Endings
+pub mod Viable
+pub mod Deep
+pub mod Samples

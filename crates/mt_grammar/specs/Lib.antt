@@ -1,0 +1,11 @@
+pub mod Token
+pub mod Tree
+pub mod Nodes
+pub mod Grammar
+pub mod Stack
+pub mod Machine
+pub mod Values
+pub mod Continues
+pub mod Rose
+pub mod Depth
+pub mod Samples
