@@ -17,6 +17,9 @@ Asks words (replay application schedule) =
 abbrev pub AsksNothing : List (List ℕ) → Type 0
 AsksNothing words = (asked : Asked) → Asks words asked → ⊥
 
+abbrev pub AsksForNoReplay : List (List ℕ) → Type 0
+AsksForNoReplay words = (application schedule : List ℕ) → Asks words (replay application schedule) → ⊥
+
 -- what a command asks for
 abbrev pub asked_by : Command → Asked
 asked_by (Check application) = check application.now

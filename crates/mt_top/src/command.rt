@@ -2,6 +2,7 @@ ghost use Rattle.std.specs.Prelude.{◌≡◌, ◌⊎◌, ◌≤◌, ℕ, List, 
 ghost use Rattle.mt_top.specs.declared.status.Status.{Status};
 ghost use Rattle.mt_top.specs.Expected.{Expected, IsFault};
 ghost use Rattle.mt_top.specs.Meaning.{StatusMeans, ModeIsFor};
+ghost use Rattle.mt_top.specs.Words.{AsksForNoReplay};
 
 use crate::checking::check;
 use crate::lines::usage;
@@ -53,6 +54,8 @@ pub fn run<F: Files, O: Sink, W: Wire, D: Door>(
       faults_after = F.faults files.new;
     }) (map string_bytes words.now) expected → (result ≡ expected) ⊎ IsFault result }
     ensures mode { ModeIsFor (W.mode wire.new) result }
+    // Words that ask for no replay leave the wire as it was.
+    ensures quiet { AsksForNoReplay (map string_bytes words.now) → wire.new ≡ wire.old }
     ensures door { _door.new ≡ _door.old }
     ensures contents { F.contents files.new ≡ F.contents files.old }
     ensures files_later { (name : List ℕ) → F.faults files.old name ≤ F.faults files.new name }
@@ -85,6 +88,8 @@ fn carry_out<F: Files, O: Sink, W: Wire>(
       faults_after = W.faults wire.new;
     }) (map string_bytes words.now) result }
     ensures mode { ModeIsFor (W.mode wire.new) result }
+    // Words that ask for no replay leave the wire as it was.
+    ensures quiet { AsksForNoReplay (map string_bytes words.now) → wire.new ≡ wire.old }
     ensures contents { F.contents files.new ≡ F.contents files.old }
     ensures files_later { (name : List ℕ) → F.faults files.old name ≤ F.faults files.new name }
     ensures sink_later { O.faults out.old ≤ O.faults out.new }

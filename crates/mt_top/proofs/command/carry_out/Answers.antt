@@ -23,3 +23,7 @@ returns-in-Some-Replay-clause-meaning g c =
     (map string_bytes c.args.words.now) c.in-Some-Replay.application.now c.in-Some-Replay.schedule.now _
     (subst (λ (command : Command). Asks (map string_bytes c.args.words.now) (asked_by command)) c.in-Some-Replay.field-0-is c.in-Some-Replay.ensures.found)
     c.replay.ensures.meaning
+
+pub returns-in-Some-Replay-clause-quiet : goal.returns-in-Some-Replay-clause-quiet
+returns-in-Some-Replay-clause-quiet g c = λ none. absurd (none _ _
+    (subst (λ (command : Command). Asks (map string_bytes c.args.words.now) (asked_by command)) c.in-Some-Replay.field-0-is c.in-Some-Replay.ensures.found))
