@@ -1,0 +1,12 @@
+pub mod Scalars
+pub mod Decoding
+pub mod References
+pub mod Places
+pub mod Suffixes
+pub mod Digits
+pub mod Readable
+pub mod Readings
+pub mod Spelled
+pub mod Lengths
+pub mod Units
+pub mod Marked
