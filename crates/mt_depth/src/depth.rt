@@ -1,0 +1,56 @@
+ghost use Rattle.std.specs.Prelude.{◌≡◌, ◌+◌, [], None, IfOk, reverse};
+ghost use Rattle.mt_grammar.specs.Depth as spec;
+ghost use Rattle.mt_grammar.specs.Depth.{scan};
+ghost use Rattle.mt_nodes.specs.Views.{nodes_of};
+
+use crate::levels::Levels;
+use crate::place::counted_place;
+use crate::within::add_within;
+use mt_nodes::Node;
+use mt_tree::Place;
+use std::alloc::{AllocError, Global};
+
+/// Where the first statement or expression stands, in the order of the text, that is deeper than the limit; a statement at the
+/// top of the file has depth 1. `None` where the tree is no deeper. The nodes are those of a program, each behind those in it.
+///
+/// The error comes only where memory runs out.
+pub fn first_too_deep(
+    alloc: Global,
+    nodes: &[Node<'_>],
+    limit: u16,
+) -> Result<Option<Place>, AllocError>
+    ensures { IfOk result (λ found. found ≡ scan (limit + 1) (reverse (nodes_of nodes.now)) [] None) }
+{
+    let mut levels = Levels::new(alloc, limit as u32 + 1);
+    let mut found = None;
+    let mut left = nodes.len();
+    while left > 0 {
+        left -= 1;
+        let node = &nodes[left];
+        let level = levels.next()?;
+        let place = counted_place(node);
+        found = found_at(place, level, found);
+        add_within(&mut levels, node, level_within(place, level))?;
+    }
+    Ok(found)
+}
+
+// The place of a node at level 1, else what was found behind it.
+fn found_at(place: Option<Place>, level: u32, found: Option<Place>) -> Option<Place>
+    ensures { result ≡ spec.found_at place level found }
+{
+    match place {
+        Some(place) if level == 1 => Some(place),
+        _ => found,
+    }
+}
+
+// The level of what stands in a node.
+fn level_within(place: Option<Place>, level: u32) -> u32
+    ensures { result ≡ spec.below place level }
+{
+    match place {
+        Some(_) => level.saturating_sub(1),
+        None => level,
+    }
+}
