@@ -1,0 +1,10 @@
+pub mod Syntax
+pub mod Found
+pub mod Program
+pub mod Answer
+pub mod Parts
+pub mod Making
+pub mod State
+pub mod Roses
+pub mod Growing
+pub mod Building
