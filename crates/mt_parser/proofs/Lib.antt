@@ -1,0 +1,4 @@
+pub mod Answer
+pub mod Few
+mod Places
+mod Small
