@@ -1,10 +1,11 @@
 -- A run ends as expected, or with a fault.
 use Rattle.std.proofs.Common.{◌≡◌, ◌⊎◌, inl, inr, ◌≤◌, ◌<◌, ℕ, List, [], ◌∷◌, length, get_or, codes, Option, None, Some, IfSome, refl, sym, ap, ◌∙◌, arith, subst}
 use Rattle.std.specs.Str.{chars}
+use Rattle.mt_small.specs.Application.{Spells}
 use Rattle.mt_top.specs.declared.status.Status.{Status}
 use Rattle.mt_top.specs.declared.status.Status.TheVariants.{Done, Refused, Usage, BadSchedule, FileFault, SinkFault, WireFault, NoMemory, TooLong, StartFailed, DoorFault}
 use Rattle.mt_top.specs.Words.{Asked, check, replay, Asks}
-use Rattle.mt_top.specs.Texts.{FilesSeen, file_limit, IsRead, IsTooLong, Holds, HoldsMore, IsNotSmallText, IsNotScheduleText}
+use Rattle.mt_top.specs.Texts.{FilesSeen, file_limit, IsRead, IsTooLong, Holds, HoldsMore, IsSmallText, IsNotSmallText, IsNotScheduleText}
 use Rattle.mt_top.specs.Meaning.{SinkSeen, WireSeen, IsOneTooLong, BothRead, BothSpelled, StatusMeans, AskedMeans}
 use Rattle.mt_top.specs.Expected.{BothHold, OneHoldsMore, ExpectedOf, Expected, IsFault}
 
@@ -82,6 +83,15 @@ spelled_once application schedule P is none = none is.small is.fits is.applicati
 scheduled_once : (application schedule : List ℕ) (P : _) → BothSpelled application schedule P → IsNotScheduleText schedule → ⊥
 scheduled_once application schedule P is none = none is.commands is.schedule_is
 
+-- one text is not both
+small_once : (files : FilesSeen) (name bytes text : List ℕ) → IsRead files name bytes → Holds files name text → IsSmallText text → IsNotSmallText bytes → ⊥
+small_once files name bytes text read holds (small, fits, spells) none =
+    none small fits (subst (λ (x : List ℕ). Spells x small) (sym (told_same (files.contents (chars name)) bytes text read.0 holds.0)) spells)
+
+small_always : (files : FilesSeen) (name bytes text : List ℕ) → IsRead files name bytes → Holds files name text → IsSmallText bytes → IsNotSmallText text → ⊥
+small_always files name bytes text read holds (small, fits, spells) none =
+    none small fits (subst (λ (x : List ℕ). Spells x small) (told_same (files.contents (chars name)) bytes text read.0 holds.0) spells)
+
 of_check : (files : FilesSeen) (sink : SinkSeen) (wire : WireSeen) (a : List ℕ) (e r : Status)
     → ExpectedOf files (check a) e → AskedMeans files sink wire (check a) r → (r ≡ e) ⊎ IsFault r
 of_check files sink wire a e FileFault x m = inr tt
@@ -91,13 +101,16 @@ of_check files sink wire a e WireFault x m = absurd m
 of_check files sink wire a e StartFailed x m = absurd m
 of_check files sink wire a e DoorFault x m = absurd m
 of_check files sink wire a e Usage x m = absurd m
-of_check files sink wire a e Done x m = absurd m
 of_check files sink wire a e BadSchedule x m = absurd m
+of_check files sink wire a Done Done x m = inl refl
 of_check files sink wire a Refused Refused x m = inl refl
 of_check files sink wire a TooLong TooLong x m = inl refl
+of_check files sink wire a TooLong Done x m = absurd (never_more files a m.0 m.1 x)
 of_check files sink wire a TooLong Refused x m = absurd (never_more files a m.0 m.1 x)
+of_check files sink wire a Done TooLong x m = absurd (never_long files a x.0 m.0 x.1)
 of_check files sink wire a Refused TooLong x m = absurd (never_long files a x.0 m.0 x.1)
-of_check files sink wire a Done r x m = absurd x
+of_check files sink wire a Done Refused x m = absurd (small_once files a m.0 x.0 m.1 x.1 x.2 m.2)
+of_check files sink wire a Refused Done x m = absurd (small_always files a m.0 x.0 m.1 x.1 m.2 x.2)
 of_check files sink wire a Usage r x m = absurd x
 of_check files sink wire a BadSchedule r x m = absurd x
 of_check files sink wire a FileFault r x m = absurd x

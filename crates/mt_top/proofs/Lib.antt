@@ -1,3 +1,4 @@
 pub mod Exclusion
+pub mod Judging
 pub mod Meanings
 pub mod ShortLists

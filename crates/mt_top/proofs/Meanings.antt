@@ -1,5 +1,5 @@
 -- From what a status says of the commands to what it says of their texts, of the files and of the words.
-use Rattle.std.proofs.Common.{ℕ, List, Option, None, Some, IfSome}
+use Rattle.std.proofs.Common.{◌≡◌, ℕ, List, [], ◌∷◌, length, codes, Option, None, Some, IfSome, arith, sym, ap, ◌∙◌}
 use Rattle.std.specs.List.{AllByRecursion}
 use Rattle.mt_outside.specs.Message.{Message, IsFaithful}
 use Rattle.mt_small.specs.declared.application.Small.{Small}
@@ -72,12 +72,17 @@ pub of_check : (files : FilesSeen) (sink : SinkSeen) (wire : WireSeen) (words : 
     → Asks words (check a) → CheckMeans files sink a status → StatusMeans files sink wire words status
 of_check files sink wire words a SinkFault asks means = means
 of_check files sink wire words a NoMemory asks means = tt
+of_check files sink wire words a Done asks means = (check a, asks, means)
 of_check files sink wire words a Refused asks means = (check a, asks, means)
 of_check files sink wire words a FileFault asks means = (check a, asks, means)
 of_check files sink wire words a TooLong asks means = (check a, asks, means)
 of_check files sink wire words a Usage asks means = absurd means
-of_check files sink wire words a Done asks means = absurd means
 of_check files sink wire words a BadSchedule asks means = absurd means
 of_check files sink wire words a WireFault asks means = absurd means
 of_check files sink wire words a StartFailed asks means = absurd means
 of_check files sink wire words a DoorFault asks means = absurd means
+
+-- words that ask for a check ask for no replay
+pub not_both : (words : List (List ℕ)) (a b s : List ℕ) → Asks words (check a) → Asks words (replay b s) → ⊥
+not_both words a b s p q =
+    let e : length (codes "check" ∷ a ∷ []) ≡ length (codes "replay" ∷ b ∷ s ∷ []) = ap length (sym p.0 ∙ q.0) in omega (arith, e)

@@ -19,7 +19,8 @@ OneHoldsMore files first second = HoldsMore files first ⊎ ((text : List ℕ) �
 
 abbrev pub ExpectedOf : FilesSeen → Asked → Status → Type 0
 ExpectedOf files (check a) TooLong = HoldsMore files a
-ExpectedOf files (check a) Refused = (text : List ℕ) × Holds files a text
+ExpectedOf files (check a) Done = (text : List ℕ) × Holds files a text × IsSmallText text
+ExpectedOf files (check a) Refused = (text : List ℕ) × Holds files a text × IsNotSmallText text
 ExpectedOf files (check a) status = ⊥
 ExpectedOf files (replay a s) TooLong = OneHoldsMore files a s
 ExpectedOf files (replay a s) Refused = BothHold files a s (λ application schedule. IsNotSmallText application)

@@ -1,14 +1,19 @@
 -- The lines that a run writes where it has no other output.
-use Rattle.std.specs.Prelude.{◌++◌, ℕ, List, codes, decimal, Result, Ok, Err}
+use Rattle.std.specs.Prelude.{◌++◌, ℕ, List, codes, decimal}
 use Rattle.mt_tree.specs.declared.place.Place.{Place}
 use Rattle.mt_lexer.specs.declared.refusal.LexRefusal.{LexRefusal}
 use Rattle.mt_lexer.specs.declared.refusal.LexRefusal.TheVariants.{NotUtf8, BadCharacter, BadEscape, Unclosed, NumberTooLarge, TooManyTokens, NoMemory}
-use Rattle.mt_lexer.specs.Tokens.{Spelled}
+use Rattle.mt_parser.specs.declared.refusal.ParseRefusal.{ParseRefusal}
+use Rattle.mt_parser.specs.declared.refusal.ParseRefusal.TheVariants as grammar
 
 unfoldable pub usage_text : List ℕ
 usage_text =
     codes "usage: hopjs check APP\n       hopjs start APP\n       hopjs page APP TARGET\n"
     ++ codes "       hopjs replay APP SCHEDULE [--loopback]\n       hopjs serve APP PORT COUNT\n       hopjs load N\n"
+
+-- the application is accepted
+unfoldable pub accepted_line : List ℕ
+accepted_line = codes "accepted\n"
 
 -- the application uses what is not built
 unfoldable pub not_built_line : List ℕ
@@ -37,7 +42,8 @@ spelling_line (NumberTooLarge place) = refused_at (codes "NumberTooLarge") place
 spelling_line (TooManyTokens place) = refused_at (codes "TooManyTokens") place
 spelling_line NoMemory = not_built_line
 
--- the line for a text that is not accepted, by how it reads
-abbrev pub refusal_line : Result Spelled LexRefusal → List ℕ
-refusal_line (Ok spelled) = not_built_line
-refusal_line (Err refusal) = spelling_line refusal
+-- why its tokens are no program that is not too deep, and where
+abbrev pub grammar_line : ParseRefusal → List ℕ
+grammar_line (grammar.Syntax place) = refused_at (codes "Syntax") place
+grammar_line (grammar.TooDeep place) = refused_at (codes "TooDeep") place
+grammar_line grammar.NoMemory = not_built_line

@@ -14,7 +14,7 @@ use Rattle.mt_session.specs.WireFits.{ActedAreTaken, table}
 use Rattle.mt_top.specs.declared.status.Status.{Status}
 use Rattle.mt_top.specs.declared.status.Status.TheVariants.{Done, Refused, Usage, BadSchedule, FileFault, SinkFault, WireFault, NoMemory, TooLong, StartFailed, DoorFault}
 use Rattle.mt_top.specs.Words.{Asked, check, replay, Asks, AsksNothing}
-use Rattle.mt_top.specs.Lines.{usage_text, file_fault_line, too_long_line, bad_line}
+use Rattle.mt_top.specs.Lines.{usage_text, accepted_line, file_fault_line, too_long_line, bad_line}
 use Rattle.mt_top.specs.Texts.{FilesSeen, IsRead, IsTooLong, IsSmallText, IsNotSmallText, IsNotScheduleText, IsRefusalLine}
 
 -- the sink of a run: what it holds and its count of faults, before and after
@@ -89,14 +89,28 @@ TextsMean sink wire application schedule DoorFault = ⊥
 abbrev pub HasFailed : FilesSeen → List ℕ → Type 0
 HasFailed files name = Rose (files.faults (chars name)) (files.faults_after (chars name))
 
+-- what a status says of a check of this text
+abbrev pub TextMeans : SinkSeen → List ℕ → Status → Type 0
+TextMeans sink text Done = IsSmallText text × Wrote sink accepted_line
+TextMeans sink text Refused = IsNotSmallText text × WroteRefusal sink text
+TextMeans sink text SinkFault = Rose sink.faults sink.faults_after
+TextMeans sink text NoMemory = ⊤
+TextMeans sink text Usage = ⊥
+TextMeans sink text BadSchedule = ⊥
+TextMeans sink text FileFault = ⊥
+TextMeans sink text WireFault = ⊥
+TextMeans sink text TooLong = ⊥
+TextMeans sink text StartFailed = ⊥
+TextMeans sink text DoorFault = ⊥
+
 -- what a status says of a check of this file
 abbrev pub CheckMeans : FilesSeen → SinkSeen → List ℕ → Status → Type 0
-CheckMeans files sink name Refused = (text : List ℕ) × IsRead files name text × WroteRefusal sink text
+CheckMeans files sink name Done = (text : List ℕ) × IsRead files name text × IsSmallText text × Wrote sink accepted_line
+CheckMeans files sink name Refused = (text : List ℕ) × IsRead files name text × IsNotSmallText text × WroteRefusal sink text
 CheckMeans files sink name FileFault = HasFailed files name × Wrote sink file_fault_line
 CheckMeans files sink name TooLong = IsTooLong files name × Wrote sink too_long_line
 CheckMeans files sink name SinkFault = Rose sink.faults sink.faults_after
 CheckMeans files sink name NoMemory = ⊤
-CheckMeans files sink name Done = ⊥
 CheckMeans files sink name Usage = ⊥
 CheckMeans files sink name BadSchedule = ⊥
 CheckMeans files sink name WireFault = ⊥
@@ -151,7 +165,7 @@ IsOutputFault before after SinkFault = Rose before after
 IsOutputFault before after NoMemory = ⊤
 IsOutputFault before after status = ⊥
 
--- the wire is begun where the status is Done, never with loopback, and not at all where the words, a file or a text is at fault
+-- the wire of a replay is begun where the status is Done, never with loopback, and not at all where the words, a file or a text is at fault
 abbrev pub ModeIsFor : Option Bool → Status → Type 0
 ModeIsFor None Done = ⊥
 ModeIsFor None status = ⊤

@@ -1,11 +1,12 @@
-ghost use Rattle.std.specs.Prelude.{◌≡◌, ◌≤◌, ℕ, List};
-ghost use Rattle.mt_top.specs.Meaning.{CheckMeans};
+ghost use Rattle.std.specs.Prelude.{◌≡◌, ◌≤◌, ℕ, List, length};
+ghost use Rattle.mt_top.specs.Meaning.{CheckMeans, TextMeans};
 
-use crate::lines::{file_fault, too_long};
+use crate::lines::{accepted, file_fault, too_long};
 use crate::output::write_output;
 use crate::refusing::refuse;
 use crate::status::Status;
 use mt_outside::{Files, ReadFault, Sink, read_file};
+use mt_small::{SmallRefusal, read_small};
 use std::alloc::Global;
 
 /// Checks the application in a file.
@@ -30,10 +31,7 @@ pub fn check<F: Files, O: Sink>(
     ensures sink_later { O.faults out.old ≤ O.faults out.new }
 {
     match read_file(alloc, files, application) {
-        Ok(text) => match refuse(alloc, &text, out) {
-            Ok(()) => Status::Refused,
-            Err(status) => status,
-        },
+        Ok(text) => check_text(alloc, &text, out),
         Err(ReadFault::Failed) => match write_output(out, file_fault()) {
             Ok(()) => Status::FileFault,
             Err(status) => status,
@@ -43,5 +41,29 @@ pub fn check<F: Files, O: Sink>(
             Err(status) => status,
         },
         Err(ReadFault::NoMemory) => Status::NoMemory,
+    }
+}
+
+// Accepts a small application, and refuses any other text.
+fn check_text<O: Sink>(alloc: Global, text: &[u8], out: &mut O) -> Status
+    requires short { length text.now ≤ 1048576 }
+    ensures meaning { TextMeans (record {
+      held = O.held out.old;
+      held_after = O.held out.new;
+      faults = O.faults out.old;
+      faults_after = O.faults out.new;
+    }) text.now result }
+    ensures later { O.faults out.old ≤ O.faults out.new }
+{
+    match read_small(alloc, text) {
+        Ok(_small) => match write_output(out, accepted()) {
+            Ok(()) => Status::Done,
+            Err(status) => status,
+        },
+        Err(SmallRefusal::NotSmall) => match refuse(alloc, text, out) {
+            Ok(()) => Status::Refused,
+            Err(status) => status,
+        },
+        Err(SmallRefusal::NoMemory) => Status::NoMemory,
     }
 }

@@ -2,7 +2,7 @@ ghost use Rattle.std.specs.Prelude.{◌≡◌, ◌⊎◌, ◌≤◌, ℕ, List, 
 ghost use Rattle.mt_top.specs.declared.status.Status.{Status};
 ghost use Rattle.mt_top.specs.Expected.{Expected, IsFault};
 ghost use Rattle.mt_top.specs.Meaning.{StatusMeans, ModeIsFor};
-ghost use Rattle.mt_top.specs.Words.{AsksForNoReplay};
+ghost use Rattle.mt_top.specs.Words.{Asks, AsksForNoReplay, replay};
 
 use crate::checking::check;
 use crate::lines::usage;
@@ -15,8 +15,8 @@ use std::alloc::Global;
 
 /// Carries out the command that the words spell. They are the words after the program's name.
 ///
-/// - `check APP` reads the application in the file APP, and refuses it with its first refusal of spelling, or else as one
-///   that uses what is not built.
+/// - `check APP` reads the application in the file APP. A small application is accepted; any other text is refused with its first refusal of
+///   spelling or grammar, or else as one that uses what is not built.
 /// - `replay APP SCHEDULE` reads the small application in the file APP and the schedule in the file SCHEDULE, plays the schedule
 ///   over the wire, and writes the transcript.
 ///
@@ -53,7 +53,7 @@ pub fn run<F: Files, O: Sink, W: Wire, D: Door>(
       faults = F.faults files.old;
       faults_after = F.faults files.new;
     }) (map string_bytes words.now) expected → (result ≡ expected) ⊎ IsFault result }
-    ensures mode { ModeIsFor (W.mode wire.new) result }
+    ensures mode { (application schedule : List ℕ) → Asks (map string_bytes words.now) (replay application schedule) → ModeIsFor (W.mode wire.new) result }
     // Words that ask for no replay leave the wire as it was.
     ensures quiet { AsksForNoReplay (map string_bytes words.now) → wire.new ≡ wire.old }
     ensures door { _door.new ≡ _door.old }
@@ -87,7 +87,7 @@ fn carry_out<F: Files, O: Sink, W: Wire>(
       faults = W.faults wire.old;
       faults_after = W.faults wire.new;
     }) (map string_bytes words.now) result }
-    ensures mode { ModeIsFor (W.mode wire.new) result }
+    ensures mode { (application schedule : List ℕ) → Asks (map string_bytes words.now) (replay application schedule) → ModeIsFor (W.mode wire.new) result }
     // Words that ask for no replay leave the wire as it was.
     ensures quiet { AsksForNoReplay (map string_bytes words.now) → wire.new ≡ wire.old }
     ensures contents { F.contents files.new ≡ F.contents files.old }

@@ -1,8 +1,10 @@
 ghost use Rattle.std.specs.Prelude.{◌≡◌, ◌++◌, ◌≢◌, IfOk, OnOk, Err, codes, decimal};
 ghost use Rattle.mt_lexer.specs.declared.refusal.LexRefusal.TheVariants as LexRefusal;
-ghost use Rattle.mt_top.specs.Lines.{usage_text, not_built_line, file_fault_line, too_long_line, bad_line, refused_at, spelling_line};
+ghost use Rattle.mt_parser.specs.declared.refusal.ParseRefusal.TheVariants as ParseRefusal;
+ghost use Rattle.mt_top.specs.Lines.{usage_text, accepted_line, grammar_line, not_built_line, file_fault_line, too_long_line, bad_line, refused_at, spelling_line};
 
 use mt_lexer::LexRefusal;
+use mt_parser::ParseRefusal;
 use mt_small::{append, append_number};
 use mt_tree::{NoMemory, Place};
 use std::alloc::Global;
@@ -13,6 +15,14 @@ pub fn usage() -> &'static [u8]
     ensures { result.now ≡ usage_text }
 {
     b"usage: hopjs check APP\n       hopjs start APP\n       hopjs page APP TARGET\n       hopjs replay APP SCHEDULE [--loopback]\n       hopjs serve APP PORT COUNT\n       hopjs load N\n"
+}
+
+/// What is written where the application is accepted.
+#[tactic(auto, unfolding(crate::specs::Lines::accepted_line))]
+pub fn accepted() -> &'static [u8]
+    ensures { result.now ≡ accepted_line }
+{
+    b"accepted\n"
 }
 
 /// What is written where the application uses what is not built.
@@ -88,5 +98,16 @@ pub fn spelling_line(alloc: Global, refusal: LexRefusal) -> Result<Vec<u8>, NoMe
         LexRefusal::NumberTooLarge(place) => refused_line(alloc, b"NumberTooLarge", place),
         LexRefusal::TooManyTokens(place) => refused_line(alloc, b"TooManyTokens", place),
         LexRefusal::NoMemory => Err(NoMemory),
+    }
+}
+
+/// What is written where tokens are no program, or one whose tree is too deep: the rule, and the place.
+pub fn grammar_line(alloc: Global, refusal: ParseRefusal) -> Result<Vec<u8>, NoMemory>
+    ensures { IfOk result (λ line. (refusal ≢ ParseRefusal.NoMemory) × (line.items ≡ grammar_line refusal)) }
+{
+    match refusal {
+        ParseRefusal::Syntax(place) => refused_line(alloc, b"Syntax", place),
+        ParseRefusal::TooDeep(place) => refused_line(alloc, b"TooDeep", place),
+        ParseRefusal::NoMemory => Err(NoMemory),
     }
 }

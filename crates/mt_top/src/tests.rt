@@ -135,14 +135,7 @@ fn a_client_reads_the_bytes_that_it_was_given(rt: HostRuntime) -> Result<(), Fai
 #[test]
 fn each_fault_has_its_status(rt: HostRuntime) -> Result<(), Fail> {
     let cases: [(&[&str], u64, u64, u64, Status, &[u8]); 6] = [
-        (
-            &["check", "app"],
-            0,
-            0,
-            0,
-            Status::Refused,
-            b"refused NotBuilt at 1:1\n",
-        ),
+        (&["check", "app"], 0, 0, 0, Status::Done, b"accepted\n"),
         (
             &["replay", "app"],
             0,
