@@ -1,2 +1,3 @@
-mod Texts
+pub mod Lawfulness
+pub mod Texts
 mod Units

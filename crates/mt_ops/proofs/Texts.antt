@@ -1,5 +1,5 @@
 -- Texts, character by character.
-use Rattle.std.proofs.Common.{◌≡◌, ◌≤◌, ◌↔◌, ◌^◌, ◌&&◌, Bool, false, ℤ, subst, min, nat_le, IsTrue, ℕ, length, zero, suc, ◌+◌, ◌-◌, ◌<◌, true, List, [], ◌∷◌, ◌++◌, take, sym, ap, refl, ◌∙◌, arith, append_assoc}
+use Rattle.std.proofs.Common.{◌≡◌, ◌↔◌, ◌^◌, ◌&&◌, Bool, false, ℤ, subst, min, nat_le, IsTrue, ℕ, length, zero, suc, ◌+◌, ◌-◌, ◌<◌, true, List, [], ◌∷◌, ◌++◌, take, sym, ap, refl, ◌∙◌, arith, append_assoc}
 use Rattle.std.specs.Char.{encode_utf8}
 use Rattle.std.specs.Str.{chars, IsUtf8, IsAscii}
 use Rattle.std.specs.String.{string_bytes}
@@ -14,7 +14,7 @@ use lib.Signed.{mag}
 use lib.Utf8.{encodes, scalar, scalars}
 use Rattle.mt_value.specs.Limits.{text_fits}
 use Rattle.mt_ops.specs.Operators.{is_empty}
-use Rattle.mt_tree.specs.Text.{units_in, units_of}
+use Rattle.mt_tree.specs.Text.{units_of}
 use Rattle.mt_ops.specs.Errors.{cut, operator_text}
 use Rattle.mt_ops.specs.Texts.{is_plain}
 use Rattle.mt_ops.specs.declared.error.Operator.{Operator}
@@ -30,7 +30,7 @@ pub units_joined : (a b : List ℕ) → units_of (a ++ b) ≡ units_of a + units
 units_joined [] b = omega arith
 units_joined (c ∷ a) b = omega (arith, units_joined a b)
 
-ascii : (bs : List ℕ) → is_plain bs ≡ true → IsAscii bs
+pub ascii : (bs : List ℕ) → is_plain bs ≡ true → IsAscii bs
 ascii [] e i = omega arith
 ascii (b ∷ bs) e zero = grind (arith, nat_tests, e)
 ascii (b ∷ bs) e (suc i) = ascii bs (grind (arith, e)) i

@@ -1,5 +1,5 @@
 -- The order of texts, character by character.
-use Rattle.std.proofs.Common.{◌≡◌, ℕ, zero, suc, ◌+◌, ◌-◌, ◌<◌, ◌≤◌, ◌/◌, ◌%◌, ◌==◌, ◌⊎◌, Bool, true, false, nat_lt, nat_le, length, List, [], ◌∷◌, ◌++◌, sym, ap, refl, ◌∙◌, arith}
+use Rattle.std.proofs.Common.{◌≡◌, ℕ, ◌+◌, ◌-◌, ◌<◌, ◌≤◌, ◌/◌, ◌%◌, ◌==◌, ◌⊎◌, Bool, true, false, nat_lt, nat_le, length, List, [], ◌∷◌, ◌++◌, sym, refl, ◌∙◌, arith}
 use Rattle.std.specs.Prelude.{flat_map}
 use mathlib.Core.Bool.{beq}
 use Rattle.std.proofs.lemmas.Bool.Decides.{nat_tests}

@@ -1,5 +1,5 @@
 -- Equality by `===`: of kind and value.
-use Rattle.std.specs.Prelude.{ℕ, Bool, true, false, ◌==◌, ℤ}
+use Rattle.std.specs.Prelude.{Bool, true, false, ◌==◌}
 use Rattle.std.specs.Ordering.{int_eq}
 use Rattle.mt_value.specs.Names.{is_same}
 use Rattle.mt_value.specs.declared.value.Native.{Native}

@@ -1,5 +1,5 @@
 -- Arithmetic on whole numbers within 2^53 - 1 in size.
-use Rattle.std.specs.Prelude.{ℤ, pos, neg_ℤ, ◌+ℤ◌, ◌-ℤ◌, ◌*ℤ◌, ◌==◌, if◌then◌else◌, Result, Ok, Err, int_div, int_rem, unsigned_abs}
+use Rattle.std.specs.Prelude.{ℤ, ◌+ℤ◌, ◌-ℤ◌, ◌*ℤ◌, ◌==◌, if◌then◌else◌, Result, Ok, Err, int_div, int_rem, unsigned_abs}
 use Rattle.mt_ops.specs.declared.error.ErrorKind.{ErrorKind}
 use Rattle.mt_ops.specs.declared.error.ErrorKind.TheVariants as error
 use Rattle.mt_value.specs.Limits.{in_range}

@@ -1,5 +1,5 @@
 -- The operators, as functions of their operands.
-use Rattle.std.specs.Prelude.{ℕ, ℤ, pos, neg_ℤ, ◌==◌, ◌||◌, int_lt, int_le, List, [], ◌∷◌, Bool, true, false, not, Option, None, Some, Result, Ok, Err, if◌then◌else◌, unsigned_abs}
+use Rattle.std.specs.Prelude.{ℕ, ℤ, neg_ℤ, ◌==◌, ◌||◌, int_lt, int_le, List, [], ◌∷◌, Bool, true, false, not, Option, Some, Result, Ok, Err, if◌then◌else◌, unsigned_abs}
 use Rattle.mt_ops.specs.Equality.{same}
 use Rattle.mt_ops.specs.Numbers.{sum, difference, product, quotient, remainder, within}
 use Rattle.mt_ops.specs.Texts.{join_text, joined, type_name}

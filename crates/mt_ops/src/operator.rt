@@ -1,7 +1,9 @@
 ghost use Rattle.std.specs.Prelude.{◌≡◌, IfOk};
 ghost use Rattle.mt_ops.specs.Errors.{Answers, settled};
+ghost use Rattle.mt_ops.specs.Lawful.{StaysLawful};
 ghost use Rattle.mt_ops.specs.Operators as spec;
 ghost use Rattle.mt_ops.specs.Numbers as numbers;
+ghost use Rattle.mt_value.specs.Lawful.{Lawful, LawfulValue};
 
 use crate::equality::same;
 use crate::error::{ErrorKind, Operator};
@@ -25,7 +27,8 @@ pub fn binary(
     right: &Value,
     store: &mut Store,
 ) -> Result<Outcome, NoMemory>
-    ensures { IfOk result (λ outcome. (outcome, store.new) ≡ settled (spec.binary_of op left.now right.now) store.old) }
+    ensures meant { IfOk result (λ outcome. (outcome, store.new) ≡ settled (spec.binary_of op left.now right.now) store.old) }
+    ensures lawful { Lawful store.old → IfOk result (λ outcome. StaysLawful store.old store.new outcome) }
 {
     settle(alloc, binary_value(alloc, op, left, right), store)
 }
@@ -40,7 +43,8 @@ pub fn unary(
     operand: &Value,
     store: &mut Store,
 ) -> Result<Outcome, NoMemory>
-    ensures { IfOk result (λ outcome. (outcome, store.new) ≡ settled (spec.unary_of op operand.now) store.old) }
+    ensures meant { IfOk result (λ outcome. (outcome, store.new) ≡ settled (spec.unary_of op operand.now) store.old) }
+    ensures lawful { Lawful store.old → LawfulValue store.old operand.now → IfOk result (λ outcome. StaysLawful store.old store.new outcome) }
 {
     settle(alloc, unary_value(alloc, op, operand), store)
 }

@@ -1,8 +1,10 @@
 ghost use Rattle.std.specs.Prelude.{◌≡◌, true, Result, Ok, Err, IfOk};
 ghost use Rattle.mt_ops.specs.Errors as spec;
 ghost use Rattle.mt_ops.specs.Errors.{settled, Answers};
+ghost use Rattle.mt_ops.specs.Lawful.{StaysLawful};
 ghost use Rattle.mt_ops.specs.Texts.{is_plain};
 ghost use Rattle.mt_ops.specs.declared.error.ErrorKind.{ErrorKind as ErrorKind'};
+ghost use Rattle.mt_value.specs.Lawful.{Lawful};
 ghost use Rattle.mt_value.specs.declared.value.Value.{Value as Value'};
 
 use crate::error::ErrorKind;
@@ -22,7 +24,7 @@ pub enum Outcome {
 
 /// Why an operation gives no value.
 #[derive(Drop)]
-pub(crate) enum Refusal {
+pub enum Refusal {
     /// Memory ran out.
     NoMemory,
     /// An error that is to be thrown.
@@ -77,14 +79,18 @@ fn error_cell(alloc: Global, error: &ErrorKind) -> Result<Cell, NoMemory>
 /// # Errors
 /// `NoMemory`.
 pub fn throw(alloc: Global, error: &ErrorKind, store: &mut Store) -> Result<Outcome, NoMemory>
-    ensures { IfOk result (λ outcome. (outcome, store.new) ≡ settled (Err error.now) store.old) }
+    ensures meant { IfOk result (λ outcome. (outcome, store.new) ≡ settled (Err error.now) store.old) }
+    ensures lawful { Lawful store.old → IfOk result (λ outcome. StaysLawful store.old store.new outcome) }
 {
     let at = store.add(error_cell(alloc, error)?)?;
     Ok(Outcome::Throw(Value::Obj(at)))
 }
 
 /// Gives the value that an operation came to, or throws its error.
-pub(crate) fn settle(
+///
+/// # Errors
+/// `NoMemory`.
+pub fn settle(
     alloc: Global,
     answer: Result<Value, Refusal>,
     store: &mut Store,

@@ -1,8 +1,6 @@
-use Rattle.std.proofs.Common.{◌≡◌, ◌++◌, ap, sym, ◌∙◌}
+use Rattle.std.proofs.Common.{◌++◌, ap, sym, ◌∙◌}
 use Rattle.std.specs.Char.{encode_utf8}
-use Rattle.std.specs.Str.{chars}
 use Rattle.std.specs.Str.Iter.{chars_rest}
-use Rattle.mt_ops.specs.Order.{comes_before}
 use Rattle.mt_tree.proofs.Texts.{rest_is_utf8}
 use Rattle.mt_ops.proofs.Units.{further, decided, second_ends, first_ends, both_end}
 use Rattle.mt_ops.proofs.order.comes_before.Goals as goal

@@ -1,4 +1,4 @@
-use Rattle.std.proofs.Common.{◌≡◌, ◌++◌, take, ap, refl, sym, ◌∙◌, arith}
+use Rattle.std.proofs.Common.{take, ap, refl, ◌∙◌, arith}
 use Rattle.std.specs.Str.{chars}
 use Rattle.std.specs.Str.Iter.{chars_rest}
 use Rattle.mt_tree.proofs.Texts.{rest_is_utf8}
