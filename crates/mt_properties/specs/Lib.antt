@@ -1,0 +1,9 @@
+pub mod Arrays
+pub mod Changes
+pub mod Costs
+pub mod Counts
+pub mod ErrorText
+pub mod Keys
+pub mod Objects
+pub mod Properties
+pub mod Texts
