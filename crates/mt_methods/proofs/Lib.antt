@@ -1,0 +1,4 @@
+mod Cells
+mod Joins
+pub mod Lawfulness
+mod Names
