@@ -94,9 +94,8 @@ const INSIDE: Expected = Expected::Range("cut inside a character");
 
 const BAD_SLICE: Expected = Expected::Type("bad argument of slice");
 
-#[test]
-fn methods_of_texts(rt: HostRuntime) -> Result<(), Fail> {
-    let rows: [Row; 30] = [
+fn calls_of_a_text() -> [Row; 30] {
+    [
         ("slice", &[Given::Num(0)], Expected::Text(MIXED), 0),
         ("slice", &[Given::Num(1)], Expected::Text("\u{1F600}b"), 0),
         ("slice", &[Given::Num(2)], INSIDE, 0),
@@ -172,18 +171,21 @@ fn methods_of_texts(rt: HostRuntime) -> Result<(), Fail> {
             Expected::Type("no such property: toString"),
             0,
         ),
-    ];
+    ]
+}
+
+#[test]
+fn methods_of_texts(rt: HostRuntime) -> Result<(), Fail> {
     let mut store = Store::new(rt.alloc());
     let base = Value::Text(Text::from_str(rt.alloc(), MIXED)?);
-    for row in &rows {
+    for row in &calls_of_a_text() {
         assert!(rt; passes(rt.alloc(), &base, row, &mut store)?);
     }
     Ok(())
 }
 
-#[test]
-fn methods_of_arrays(rt: HostRuntime) -> Result<(), Fail> {
-    let rows: [Row; 28] = [
+fn calls_of_an_array() -> [Row; 28] {
+    [
         ("push", &[Given::Num(7)], Expected::Num(1), 0),
         (
             "push",
@@ -227,10 +229,14 @@ fn methods_of_arrays(rt: HostRuntime) -> Result<(), Fail> {
         ("pop", &[], Expected::Undefined, 0),
         ("join", &[Given::Text(",")], Expected::Text(""), 0),
         ("length", &[], Expected::Type("no such property: length"), 0),
-    ];
+    ]
+}
+
+#[test]
+fn methods_of_arrays(rt: HostRuntime) -> Result<(), Fail> {
     let mut store = Store::new(rt.alloc());
     let at = store.add(Cell::Arr(Buffer::new(rt.alloc())))?;
-    for row in &rows {
+    for row in &calls_of_an_array() {
         assert!(rt; passes(rt.alloc(), &Value::Arr(at), row, &mut store)?);
     }
     Ok(())
