@@ -17,6 +17,47 @@ const AFTER_THE_REPLY: &[u8] = b"page 1 2\nelement 1 0 p\ntext 2 1 \"hi\"\nend 3
 
 const REPLAY: [&str; 3] = ["replay", "app", "schedule"];
 
+/// Sources by name, with the status of a check of them and its line.
+const SOURCES: [(&str, &[u8], Status, &[u8]); 7] = [
+    ("small", APPLICATION, Status::Done, b"accepted\n"),
+    (
+        "program",
+        b"var n = 0;",
+        Status::Refused,
+        b"refused NotBuilt at 1:1\n",
+    ),
+    (
+        "unclosed",
+        b"\"a",
+        Status::Refused,
+        b"refused Unclosed at 1:1\n",
+    ),
+    (
+        "nameless",
+        b"var = 1;",
+        Status::Refused,
+        b"refused Syntax at 1:5\n",
+    ),
+    (
+        "unended",
+        b"if (1)",
+        Status::Refused,
+        b"refused Syntax at 1:7\n",
+    ),
+    (
+        "deep",
+        b"!!!!!!!!!!!!!!!!!!!!!!!!!!!!!!!!!!!!!!!!!!!!!!!!!!!!!!!!!!!1;",
+        Status::Refused,
+        b"refused TooDeep at 1:60\n",
+    ),
+    (
+        "not-so-deep",
+        b"!!!!!!!!!!!!!!!!!!!!!!!!!!!!!!!!!!!!!!!!!!!!!!!!!!!!!!!!!!1;",
+        Status::Refused,
+        b"refused NotBuilt at 1:1\n",
+    ),
+];
+
 /// What goes wrong in a run: the number of the call that fails, or 0, and the byte that arrives as another.
 #[derive(Clone, Copy)]
 struct Trouble {
@@ -57,6 +98,9 @@ fn files(alloc: Global, failing: u64) -> Result<MemoryFiles, NoMemory> {
     let mut entries = Vec::new(alloc);
     push(&mut entries, entry(alloc, "app", APPLICATION)?)?;
     push(&mut entries, entry(alloc, "schedule", SCHEDULE)?)?;
+    for (name, source, _status, _line) in SOURCES {
+        push(&mut entries, entry(alloc, name, source)?)?;
+    }
     MemoryFiles::new(alloc, entries, Vec::from_slice(alloc, &[failing])?)
 }
 
@@ -173,6 +217,16 @@ fn each_fault_has_its_status(rt: HostRuntime) -> Result<(), Fail> {
         let ended = run_with(rt.alloc(), spelled, &trouble, 4096)?;
         assert_eq!(rt; ended.status, status);
         assert!(rt; ended.output.starts_with(wanted));
+    }
+    Ok(())
+}
+
+#[test]
+fn each_source_is_accepted_or_has_its_first_refusal(rt: HostRuntime) -> Result<(), Fail> {
+    for (name, _source, status, line) in SOURCES {
+        let ended = run_with(rt.alloc(), &["check", name], &NONE, 4096)?;
+        assert_eq!(rt; ended.status, status);
+        assert_eq!(rt; ended.output.as_slice(), line);
     }
     Ok(())
 }
