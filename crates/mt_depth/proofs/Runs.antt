@@ -29,11 +29,3 @@ first_popped top run old new h = sym (ap (first_level top) h)
 
 pub later_popped : (run : Run) (old new : List ℕ) → old ≡ run.level ∷ replicate run.more run.level ++ new → replicate run.more run.level ++ new ≡ later_levels old
 later_popped run old new h = sym (ap later_levels h)
-
-joined_rows : (l a b : ℕ) (ls : List ℕ) → replicate b l ++ (replicate a l ++ ls) ≡ replicate (b + a) l ++ ls
-joined_rows l a zero ls = let none : a ≡ zero + a = omega (arith) in ap (λ m. replicate m l ++ ls) none
-joined_rows l a (suc b) ls = let more : suc (b + a) ≡ suc b + a = omega (arith) in ap (λ r. l ∷ r) (joined_rows l a b ls) ∙ ap (λ m. replicate m l ++ ls) more
-
-pub joined : (l a b c n : ℕ) (ls : List ℕ) → a + b + c ≡ n → replicate c l ++ (replicate b l ++ (replicate a l ++ ls)) ≡ replicate n l ++ ls
-joined l a b c n ls e =
-    ap (λ r. replicate c l ++ r) (joined_rows l a b ls) ∙ joined_rows l (b + a) c ls ∙ ap (λ m. replicate m l ++ ls) (omega (arith, e))

@@ -1,17 +1,20 @@
 ghost use Rattle.std.specs.Prelude.{◌≡◌, ◌+◌, [], None, IfOk, reverse};
 ghost use Rattle.mt_grammar.specs.Depth as spec;
-ghost use Rattle.mt_grammar.specs.Depth.{scan};
+ghost use Rattle.mt_grammar.specs.Nodes.{stmts_nodes};
+ghost use Rattle.mt_grammar.specs.Tree.{Stmts};
 ghost use Rattle.mt_nodes.specs.Views.{nodes_of};
 
 use crate::levels::Levels;
 use crate::place::counted_place;
-use crate::within::add_within;
+use mt_builder::inside;
+use mt_grammar::scan_finds_too_deep;
 use mt_nodes::Node;
 use mt_tree::Place;
 use std::alloc::{AllocError, Global};
 
-/// Where the first statement or expression stands, in the order of the text, that is deeper than the limit; a statement at the
-/// top of the file has depth 1. `None` where the tree is no deeper. The nodes are those of a program, each behind those in it.
+/// Where the first statement or expression stands, in the order of the text, that is deeper than the limit, for the nodes of a
+/// tree, each behind those in it; a statement at the top of the file has depth 1. `None` where the tree is no deeper. Nodes that
+/// are those of no tree are answered by the same pass. The time is linear in the number of nodes.
 ///
 /// The error comes only where memory runs out.
 pub fn first_too_deep(
@@ -19,9 +22,18 @@ pub fn first_too_deep(
     nodes: &[Node<'_>],
     limit: u16,
 ) -> Result<Option<Place>, AllocError>
-    ensures { IfOk result (λ found. found ≡ scan (limit + 1) (reverse (nodes_of nodes.now)) [] None) }
+    ensures tree { (ss : Stmts) → nodes_of nodes.now ≡ stmts_nodes ss [] → IfOk result (λ found. found ≡ spec.too_deep_at limit ss) }
+    ensures pass { IfOk result (λ found. found ≡ spec.scan (limit + 1) (reverse (nodes_of nodes.now)) [] None) }
 {
-    let mut levels = Levels::new(alloc, limit as u32 + 1);
+    scan_finds_too_deep();
+    scan(alloc, nodes, limit as u32 + 1)
+}
+
+// The place of the first node at level 1, where those at the top are at this level.
+fn scan(alloc: Global, nodes: &[Node<'_>], top: u32) -> Result<Option<Place>, AllocError>
+    ensures { IfOk result (λ found. found ≡ spec.scan top (reverse (nodes_of nodes.now)) [] None) }
+{
+    let mut levels = Levels::new(alloc, top);
     let mut found = None;
     let mut left = nodes.len();
     while left > 0 {
@@ -30,7 +42,7 @@ pub fn first_too_deep(
         let level = levels.next()?;
         let place = counted_place(node);
         found = found_at(place, level, found);
-        add_within(&mut levels, node, level_within(place, level))?;
+        levels.add(level_within(place, level), inside(node))?;
     }
     Ok(found)
 }

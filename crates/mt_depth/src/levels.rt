@@ -7,7 +7,7 @@ use std::alloc::{AllocError, Global};
 #[derive(Clone, Copy)]
 pub(crate) struct Run {
     pub(crate) level: u32,
-    pub(crate) more: usize,
+    pub(crate) more: u128,
 }
 
 // The levels of the trees that are still to come. The last run comes next.
@@ -53,7 +53,7 @@ impl Levels {
     }
 
     // Some more trees come next, all at this level.
-    pub(crate) fn add(&mut self, level: u32, count: usize) -> Result<(), AllocError>
+    pub(crate) fn add(&mut self, level: u32, count: u128) -> Result<(), AllocError>
         ensures added { OnOk result (levels_of self.new.runs.items ≡ replicate count level ++ levels_of self.old.runs.items) }
         ensures top { self.new.top ≡ self.old.top }
     {

@@ -7,7 +7,6 @@
 mod depth;
 mod levels;
 mod place;
-mod within;
 
 pub use depth::first_too_deep;
 

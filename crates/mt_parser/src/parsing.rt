@@ -8,7 +8,7 @@ ghost use Rattle.mt_marks.specs.Views as marks;
 use crate::refusal::ParseRefusal;
 use mt_builder::{build, nodes_are_few};
 use mt_depth::first_too_deep;
-use mt_grammar::{read_is_derived, scan_finds_too_deep};
+use mt_grammar::read_is_derived;
 use mt_lexer::Tokens;
 use mt_machine::{ReadRefusal, read, refused_is_offending};
 use mt_marks::{Token, end_place, tokens_of};
@@ -34,7 +34,6 @@ pub fn parse(alloc: Global, tokens: &Tokens<'_>) -> Result<Program, ParseRefusal
     refused_is_offending();
     read_is_derived();
     nodes_are_few();
-    scan_finds_too_deep();
     let source = tokens.source();
     let list = tokens_of(alloc, tokens)?;
     let nodes = match read(alloc, &list) {

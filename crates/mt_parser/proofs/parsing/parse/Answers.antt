@@ -1,7 +1,5 @@
-use Rattle.std.proofs.Common.{◌≡◌, ◌+◌, [], None, reverse, sym, ap, subst, ◌∙◌}
-use Rattle.mt_grammar.specs.Depth.{scan}
+use Rattle.std.proofs.Common.{◌≡◌, sym, ap, subst, ◌∙◌}
 use Rattle.mt_grammar.specs.Token.{Tokens}
-use Rattle.mt_grammar.specs.Nodes.{Nodes}
 use Rattle.mt_machine.specs.Refused.{IsOffending}
 use Rattle.mt_marks.specs.Tokens.{tokens_in}
 use Rattle.mt_marks.specs.Views.{tokens_of}
@@ -29,7 +27,7 @@ returns-in-Some c =
     let tree = c.read_is_derived.ensures (tokens_in c.args.tokens.now) (nodes_of c.in-Ok.nodes.items) (rw same at c.in-Ok.ensures.read) in (
       tree.0,
       tree.1,
-      sym (c.scan_finds_too_deep.ensures 60 tree.0) ∙ ap (λ (ns : Nodes). scan (60 + 1) (reverse ns) [] None) (sym tree.2 ∙ sym (ap nodes_of c.deref-2.ensures.value)) ∙ sym c.in_ok-place.ensures ∙ c.in-Some.is,
+      sym (c.in_ok-place.ensures.tree tree.0 (ap nodes_of c.deref-2.ensures.value ∙ tree.2)) ∙ c.in-Some.is,
     )
 
 pub build-requires-clause-few : goal.build-requires-clause-few
@@ -51,6 +49,6 @@ returns c =
     let tree = c.read_is_derived.ensures (tokens_in c.args.tokens.now) (nodes_of c.in-Ok.nodes.items) (rw same at c.in-Ok.ensures.read) in (
       tree.0,
       tree.1,
-      sym (c.scan_finds_too_deep.ensures 60 tree.0) ∙ ap (λ (ns : Nodes). scan (60 + 1) (reverse ns) [] None) (sym tree.2 ∙ sym (ap nodes_of c.deref-2.ensures.value)) ∙ sym c.in_ok-place.ensures ∙ c.in-None.is,
+      sym (c.in_ok-place.ensures.tree tree.0 (ap nodes_of c.deref-2.ensures.value ∙ tree.2)) ∙ c.in-None.is,
       c.in_ok-build-in-None.ensures tree.0 (ap nodes_of c.deref-in-None.ensures.value ∙ tree.2),
     )
