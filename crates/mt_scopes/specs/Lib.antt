@@ -1,0 +1,4 @@
+pub mod Bound
+pub mod Misused
+pub mod Rules
+pub mod Sites
