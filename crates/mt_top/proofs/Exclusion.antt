@@ -6,6 +6,7 @@ use Rattle.mt_top.specs.declared.status.Status.{Status}
 use Rattle.mt_top.specs.declared.status.Status.TheVariants.{Done, Refused, Usage, BadSchedule, FileFault, SinkFault, WireFault, NoMemory, TooLong, StartFailed, DoorFault}
 use Rattle.mt_top.specs.Words.{Asked, check, replay, Asks}
 use Rattle.mt_top.specs.Texts.{FilesSeen, file_limit, IsRead, IsTooLong, Holds, HoldsMore, IsSmallText, IsNotSmallText, IsNotScheduleText}
+use Rattle.mt_source.specs.Sources.{IsAcceptedText, IsNotAcceptedText, IsSourceOf}
 use Rattle.mt_top.specs.Meaning.{SinkSeen, WireSeen, IsOneTooLong, BothRead, BothSpelled, StatusMeans, AskedMeans}
 use Rattle.mt_top.specs.Expected.{BothHold, OneHoldsMore, ExpectedOf, Expected, IsFault}
 
@@ -84,13 +85,13 @@ scheduled_once : (application schedule : List ℕ) (P : _) → BothSpelled appli
 scheduled_once application schedule P is none = none is.commands is.schedule_is
 
 -- one text is not both
-small_once : (files : FilesSeen) (name bytes text : List ℕ) → IsRead files name bytes → Holds files name text → IsSmallText text → IsNotSmallText bytes → ⊥
-small_once files name bytes text read holds (small, fits, spells) none =
-    none small fits (subst (λ (x : List ℕ). Spells x small) (sym (told_same (files.contents (chars name)) bytes text read.0 holds.0)) spells)
+accepted_once : (files : FilesSeen) (name bytes text : List ℕ) → IsRead files name bytes → Holds files name text → IsAcceptedText text → IsNotAcceptedText bytes → ⊥
+accepted_once files name bytes text read holds (program, is, unbroken) none =
+    none program (subst (λ (x : List ℕ). IsSourceOf x program) (sym (told_same (files.contents (chars name)) bytes text read.0 holds.0)) is) unbroken
 
-small_always : (files : FilesSeen) (name bytes text : List ℕ) → IsRead files name bytes → Holds files name text → IsSmallText bytes → IsNotSmallText text → ⊥
-small_always files name bytes text read holds (small, fits, spells) none =
-    none small fits (subst (λ (x : List ℕ). Spells x small) (told_same (files.contents (chars name)) bytes text read.0 holds.0) spells)
+accepted_always : (files : FilesSeen) (name bytes text : List ℕ) → IsRead files name bytes → Holds files name text → IsAcceptedText bytes → IsNotAcceptedText text → ⊥
+accepted_always files name bytes text read holds (program, is, unbroken) none =
+    none program (subst (λ (x : List ℕ). IsSourceOf x program) (told_same (files.contents (chars name)) bytes text read.0 holds.0) is) unbroken
 
 of_check : (files : FilesSeen) (sink : SinkSeen) (wire : WireSeen) (a : List ℕ) (e r : Status)
     → ExpectedOf files (check a) e → AskedMeans files sink wire (check a) r → (r ≡ e) ⊎ IsFault r
@@ -109,8 +110,8 @@ of_check files sink wire a TooLong Done x m = absurd (never_more files a m.0 m.1
 of_check files sink wire a TooLong Refused x m = absurd (never_more files a m.0 m.1 x)
 of_check files sink wire a Done TooLong x m = absurd (never_long files a x.0 m.0 x.1)
 of_check files sink wire a Refused TooLong x m = absurd (never_long files a x.0 m.0 x.1)
-of_check files sink wire a Done Refused x m = absurd (small_once files a m.0 x.0 m.1 x.1 x.2 m.2)
-of_check files sink wire a Refused Done x m = absurd (small_always files a m.0 x.0 m.1 x.1 m.2 x.2)
+of_check files sink wire a Done Refused x m = absurd (accepted_once files a m.0 x.0 m.1 x.1 x.2 m.2)
+of_check files sink wire a Refused Done x m = absurd (accepted_always files a m.0 x.0 m.1 x.1 m.2 x.2)
 of_check files sink wire a Usage r x m = absurd x
 of_check files sink wire a BadSchedule r x m = absurd x
 of_check files sink wire a FileFault r x m = absurd x

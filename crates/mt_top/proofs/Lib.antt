@@ -1,4 +1,3 @@
 pub mod Exclusion
-pub mod Judging
 pub mod Meanings
 pub mod ShortLists

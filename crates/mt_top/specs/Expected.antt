@@ -4,6 +4,7 @@ use Rattle.mt_top.specs.declared.status.Status.{Status}
 use Rattle.mt_top.specs.declared.status.Status.TheVariants.{Done, Refused, Usage, BadSchedule, FileFault, SinkFault, WireFault, NoMemory, TooLong}
 use Rattle.mt_top.specs.Words.{Asked, check, replay, Asks, AsksNothing}
 use Rattle.mt_top.specs.Texts.{FilesSeen, Holds, HoldsMore, IsSmallText, IsNotSmallText, IsScheduleText, IsNotScheduleText}
+use Rattle.mt_source.specs.Sources.{IsAcceptedText, IsNotAcceptedText}
 
 -- both files hold texts of which this is true
 pub record BothHold (files : FilesSeen) (application_name schedule_name : List ℕ) (P : List ℕ → List ℕ → Type 0) : Type 0 where
@@ -19,8 +20,8 @@ OneHoldsMore files first second = HoldsMore files first ⊎ ((text : List ℕ) �
 
 abbrev pub ExpectedOf : FilesSeen → Asked → Status → Type 0
 ExpectedOf files (check a) TooLong = HoldsMore files a
-ExpectedOf files (check a) Done = (text : List ℕ) × Holds files a text × IsSmallText text
-ExpectedOf files (check a) Refused = (text : List ℕ) × Holds files a text × IsNotSmallText text
+ExpectedOf files (check a) Done = (text : List ℕ) × Holds files a text × IsAcceptedText text
+ExpectedOf files (check a) Refused = (text : List ℕ) × Holds files a text × IsNotAcceptedText text
 ExpectedOf files (check a) status = ⊥
 ExpectedOf files (replay a s) TooLong = OneHoldsMore files a s
 ExpectedOf files (replay a s) Refused = BothHold files a s (λ application schedule. IsNotSmallText application)

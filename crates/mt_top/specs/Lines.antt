@@ -1,10 +1,15 @@
 -- The lines that a run writes where it has no other output.
-use Rattle.std.specs.Prelude.{◌++◌, ℕ, List, codes, decimal}
+use Rattle.std.specs.Prelude.{◌++◌, ℕ, List, [], codes, decimal}
 use Rattle.mt_tree.specs.declared.place.Place.{Place}
 use Rattle.mt_lexer.specs.declared.refusal.LexRefusal.{LexRefusal}
 use Rattle.mt_lexer.specs.declared.refusal.LexRefusal.TheVariants.{NotUtf8, BadCharacter, BadEscape, Unclosed, NumberTooLarge, TooManyTokens, NoMemory}
 use Rattle.mt_parser.specs.declared.refusal.ParseRefusal.{ParseRefusal}
 use Rattle.mt_parser.specs.declared.refusal.ParseRefusal.TheVariants as grammar
+use Rattle.mt_rules.specs.First.{number_of}
+use Rattle.mt_stage.specs.declared.refusal.StageRefusal.{StageRefusal}
+use Rattle.mt_stage.specs.declared.refusal.StageRefusal.TheVariants as stage
+use Rattle.mt_source.specs.declared.refusal.SourceRefusal.{SourceRefusal}
+use Rattle.mt_source.specs.declared.refusal.SourceRefusal.TheVariants.{Spelling, Grammar, Rules}
 
 unfoldable pub usage_text : List ℕ
 usage_text =
@@ -40,10 +45,21 @@ spelling_line (BadEscape place) = refused_at (codes "BadEscape") place
 spelling_line (Unclosed place) = refused_at (codes "Unclosed") place
 spelling_line (NumberTooLarge place) = refused_at (codes "NumberTooLarge") place
 spelling_line (TooManyTokens place) = refused_at (codes "TooManyTokens") place
-spelling_line NoMemory = not_built_line
+spelling_line NoMemory = []
 
 -- why its tokens are no program that is not too deep, and where
 abbrev pub grammar_line : ParseRefusal → List ℕ
 grammar_line (grammar.Syntax place) = refused_at (codes "Syntax") place
 grammar_line (grammar.TooDeep place) = refused_at (codes "TooDeep") place
-grammar_line grammar.NoMemory = not_built_line
+grammar_line grammar.NoMemory = []
+
+-- which rule its program breaks first, and where
+abbrev pub rules_line : StageRefusal → List ℕ
+rules_line (stage.Broken rule place) = refused_at (codes "S" ++ decimal (number_of rule)) place
+rules_line stage.NoMemory = []
+
+-- why a source is not accepted
+abbrev pub source_line : SourceRefusal → List ℕ
+source_line (Spelling refusal) = spelling_line refusal
+source_line (Grammar refusal) = grammar_line refusal
+source_line (Rules refusal) = rules_line refusal

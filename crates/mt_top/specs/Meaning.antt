@@ -15,7 +15,9 @@ use Rattle.mt_top.specs.declared.status.Status.{Status}
 use Rattle.mt_top.specs.declared.status.Status.TheVariants.{Done, Refused, Usage, BadSchedule, FileFault, SinkFault, WireFault, NoMemory, TooLong, StartFailed, DoorFault}
 use Rattle.mt_top.specs.Words.{Asked, check, replay, Asks, AsksNothing}
 use Rattle.mt_top.specs.Lines.{usage_text, accepted_line, file_fault_line, too_long_line, bad_line}
-use Rattle.mt_top.specs.Texts.{FilesSeen, IsRead, IsTooLong, IsSmallText, IsNotSmallText, IsNotScheduleText, IsRefusalLine}
+use Rattle.mt_top.specs.Texts.{FilesSeen, IsRead, IsTooLong, IsSmallText, IsNotSmallText, IsNotScheduleText}
+use Rattle.mt_source.specs.Sources.{IsAcceptedText, IsNotAcceptedText}
+use Rattle.mt_top.specs.Refusals.{IsRefusalLine, IsUnplayedLine}
 
 -- the sink of a run: what it holds and its count of faults, before and after
 pub record SinkSeen : Type 0 where
@@ -37,6 +39,10 @@ Wrote sink bytes = sink.held_after ≡ append_known sink.held bytes
 -- the sink holds in addition why the text is not accepted
 abbrev pub WroteRefusal : SinkSeen → List ℕ → Type 0
 WroteRefusal sink text = (line : List ℕ) × IsRefusalLine text line × Wrote sink line
+
+-- the sink holds in addition why the text is not played
+abbrev pub WroteUnplayed : SinkSeen → List ℕ → Type 0
+WroteUnplayed sink text = (line : List ℕ) × IsUnplayedLine text line × Wrote sink line
 
 -- The schedule was played to its end. Where the wire tells its lists, the transcript and what was sent are those of server and clients
 -- for the bytes that the wire gave, and each message on which a side acted was taken to its end, or to 65,537 bytes.
@@ -73,7 +79,7 @@ pub record BothSpelled (application schedule : List ℕ) (P : Small → List Sma
 -- what a status says of the texts of the application and of the schedule
 abbrev pub TextsMean : SinkSeen → WireSeen → List ℕ → List ℕ → Status → Type 0
 TextsMean sink wire application schedule Done = BothSpelled application schedule (λ small commands. CommandsMean sink wire small commands Done)
-TextsMean sink wire application schedule Refused = IsNotSmallText application × WroteRefusal sink application
+TextsMean sink wire application schedule Refused = IsNotSmallText application × WroteUnplayed sink application
 TextsMean sink wire application schedule BadSchedule =
     IsSmallText application × IsNotScheduleText schedule × (number : ℕ) × IsFirstBad schedule number × Wrote sink (bad_line number)
 TextsMean sink wire application schedule SinkFault = Rose sink.faults sink.faults_after
@@ -91,8 +97,8 @@ HasFailed files name = Rose (files.faults (chars name)) (files.faults_after (cha
 
 -- what a status says of a check of this text
 abbrev pub TextMeans : SinkSeen → List ℕ → Status → Type 0
-TextMeans sink text Done = IsSmallText text × Wrote sink accepted_line
-TextMeans sink text Refused = IsNotSmallText text × WroteRefusal sink text
+TextMeans sink text Done = IsAcceptedText text × Wrote sink accepted_line
+TextMeans sink text Refused = IsNotAcceptedText text × WroteRefusal sink text
 TextMeans sink text SinkFault = Rose sink.faults sink.faults_after
 TextMeans sink text NoMemory = ⊤
 TextMeans sink text Usage = ⊥
@@ -105,8 +111,8 @@ TextMeans sink text DoorFault = ⊥
 
 -- what a status says of a check of this file
 abbrev pub CheckMeans : FilesSeen → SinkSeen → List ℕ → Status → Type 0
-CheckMeans files sink name Done = (text : List ℕ) × IsRead files name text × IsSmallText text × Wrote sink accepted_line
-CheckMeans files sink name Refused = (text : List ℕ) × IsRead files name text × IsNotSmallText text × WroteRefusal sink text
+CheckMeans files sink name Done = (text : List ℕ) × IsRead files name text × IsAcceptedText text × Wrote sink accepted_line
+CheckMeans files sink name Refused = (text : List ℕ) × IsRead files name text × IsNotAcceptedText text × WroteRefusal sink text
 CheckMeans files sink name FileFault = HasFailed files name × Wrote sink file_fault_line
 CheckMeans files sink name TooLong = IsTooLong files name × Wrote sink too_long_line
 CheckMeans files sink name SinkFault = Rose sink.faults sink.faults_after

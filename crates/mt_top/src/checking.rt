@@ -3,10 +3,10 @@ ghost use Rattle.mt_top.specs.Meaning.{CheckMeans, TextMeans};
 
 use crate::lines::{accepted, file_fault, too_long};
 use crate::output::write_output;
-use crate::refusing::refuse;
+use crate::refusing::write_refusal;
 use crate::status::Status;
 use mt_outside::{Files, ReadFault, Sink, read_file};
-use mt_small::{SmallRefusal, read_small};
+use mt_source::check_source;
 use std::alloc::Global;
 
 /// Checks the application in a file.
@@ -44,7 +44,7 @@ pub fn check<F: Files, O: Sink>(
     }
 }
 
-// Accepts a small application, and refuses any other text.
+// Accepts the text, or says why it is not accepted.
 fn check_text<O: Sink>(alloc: Global, text: &[u8], out: &mut O) -> Status
     requires short { length text.now ≤ 1048576 }
     ensures meaning { TextMeans (record {
@@ -55,15 +55,14 @@ fn check_text<O: Sink>(alloc: Global, text: &[u8], out: &mut O) -> Status
     }) text.now result }
     ensures later { O.faults out.old ≤ O.faults out.new }
 {
-    match read_small(alloc, text) {
-        Ok(_small) => match write_output(out, accepted()) {
+    match check_source(alloc, text) {
+        Ok(()) => match write_output(out, accepted()) {
             Ok(()) => Status::Done,
             Err(status) => status,
         },
-        Err(SmallRefusal::NotSmall) => match refuse(alloc, text, out) {
+        Err(refusal) => match write_refusal(alloc, refusal, out) {
             Ok(()) => Status::Refused,
             Err(status) => status,
         },
-        Err(SmallRefusal::NoMemory) => Status::NoMemory,
     }
 }

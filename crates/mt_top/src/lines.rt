@@ -1,11 +1,14 @@
-ghost use Rattle.std.specs.Prelude.{◌≡◌, ◌++◌, ◌≢◌, IfOk, OnOk, Err, codes, decimal};
-ghost use Rattle.mt_lexer.specs.declared.refusal.LexRefusal.TheVariants as LexRefusal;
-ghost use Rattle.mt_parser.specs.declared.refusal.ParseRefusal.TheVariants as ParseRefusal;
-ghost use Rattle.mt_top.specs.Lines.{usage_text, accepted_line, grammar_line, not_built_line, file_fault_line, too_long_line, bad_line, refused_at, spelling_line};
+ghost use Rattle.std.specs.Prelude.{◌≡◌, ◌++◌, IfOk, OnOk, Err, codes, decimal};
+ghost use Rattle.mt_rules.specs.First.{number_of};
+ghost use Rattle.mt_top.specs.Lines.{usage_text, accepted_line, grammar_line, not_built_line, file_fault_line, too_long_line, bad_line, refused_at, rules_line, spelling_line};
+ghost use Rattle.mt_source.specs.Sources.{IsOfText};
+ghost use Rattle.mt_source.specs.declared.refusal.SourceRefusal.TheVariants as source;
 
 use mt_lexer::LexRefusal;
 use mt_parser::ParseRefusal;
+use mt_rules::Rule;
 use mt_small::{append, append_number};
+use mt_stage::StageRefusal;
 use mt_tree::{NoMemory, Place};
 use std::alloc::Global;
 
@@ -88,7 +91,7 @@ fn refused_line(alloc: Global, rule: &[u8], place: Place) -> Result<Vec<u8>, NoM
 
 /// What is written where a text has no spelling: the rule that it breaks, and the place.
 pub fn spelling_line(alloc: Global, refusal: LexRefusal) -> Result<Vec<u8>, NoMemory>
-    ensures { IfOk result (λ line. (refusal ≢ LexRefusal.NoMemory) × (line.items ≡ spelling_line refusal)) }
+    ensures { IfOk result (λ line. IsOfText (source.Spelling refusal) × (line.items ≡ spelling_line refusal)) }
 {
     match refusal {
         LexRefusal::NotUtf8(place) => refused_line(alloc, b"NotUtf8", place),
@@ -103,11 +106,32 @@ pub fn spelling_line(alloc: Global, refusal: LexRefusal) -> Result<Vec<u8>, NoMe
 
 /// What is written where tokens are no program, or one whose tree is too deep: the rule, and the place.
 pub fn grammar_line(alloc: Global, refusal: ParseRefusal) -> Result<Vec<u8>, NoMemory>
-    ensures { IfOk result (λ line. (refusal ≢ ParseRefusal.NoMemory) × (line.items ≡ grammar_line refusal)) }
+    ensures { IfOk result (λ line. IsOfText (source.Grammar refusal) × (line.items ≡ grammar_line refusal)) }
 {
     match refusal {
         ParseRefusal::Syntax(place) => refused_line(alloc, b"Syntax", place),
         ParseRefusal::TooDeep(place) => refused_line(alloc, b"TooDeep", place),
         ParseRefusal::NoMemory => Err(NoMemory),
+    }
+}
+
+fn append_rule_number(alloc: Global, into: &mut Vec<u8>, rule: Rule) -> Result<(), NoMemory>
+    ensures { OnOk result (into.new.items ≡ into.old.items ++ (codes "S" ++ decimal (number_of rule))) }
+{
+    append(into, b"S")?;
+    append_number(alloc, into, u64::from(rule.number()))
+}
+
+/// What is written where a program breaks a rule: the first that it breaks, and the place.
+pub fn rules_line(alloc: Global, refusal: StageRefusal) -> Result<Vec<u8>, NoMemory>
+    ensures { IfOk result (λ line. IsOfText (source.Rules refusal) × (line.items ≡ rules_line refusal)) }
+{
+    match refusal {
+        StageRefusal::Broken { rule, place } => {
+            let mut name = Vec::new(alloc);
+            append_rule_number(alloc, &mut name, rule)?;
+            refused_line(alloc, &name, place)
+        }
+        StageRefusal::NoMemory => Err(NoMemory),
     }
 }

@@ -7,7 +7,7 @@ ghost use Rattle.mt_top.specs.Meaning.{TextsMean, CommandsMean, ModeIsFor, IsOut
 
 use crate::lines::bad_schedule_line;
 use crate::output::write_output;
-use crate::refusing::refuse;
+use crate::refusing::write_unplayed;
 use crate::status::Status;
 use mt_outside::{SendFault, Sink, Wire};
 use mt_session::{Played, play_small};
@@ -44,7 +44,7 @@ pub fn play_texts<O: Sink, W: Wire>(
     let small = match read_small(alloc, application) {
         Ok(small) => small,
         Err(SmallRefusal::NotSmall) => {
-            return match refuse(alloc, application, out) {
+            return match write_unplayed(alloc, application, out) {
                 Ok(()) => Status::Refused,
                 Err(status) => status,
             };

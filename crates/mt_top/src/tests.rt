@@ -18,13 +18,14 @@ const AFTER_THE_REPLY: &[u8] = b"page 1 2\nelement 1 0 p\ntext 2 1 \"hi\"\nend 3
 const REPLAY: [&str; 3] = ["replay", "app", "schedule"];
 
 /// Sources by name, with the status of a check of them and its line.
-const SOURCES: [(&str, &[u8], Status, &[u8]); 7] = [
+const SOURCES: [(&str, &[u8], Status, &[u8]); 8] = [
     ("small", APPLICATION, Status::Done, b"accepted\n"),
+    ("program", b"var n = 0;", Status::Done, b"accepted\n"),
     (
-        "program",
-        b"var n = 0;",
+        "twice",
+        b"var a = 1; let a = 2;",
         Status::Refused,
-        b"refused NotBuilt at 1:1\n",
+        b"refused S9 at 1:16\n",
     ),
     (
         "unclosed",
@@ -53,8 +54,8 @@ const SOURCES: [(&str, &[u8], Status, &[u8]); 7] = [
     (
         "not-so-deep",
         b"!!!!!!!!!!!!!!!!!!!!!!!!!!!!!!!!!!!!!!!!!!!!!!!!!!!!!!!!!!1;",
-        Status::Refused,
-        b"refused NotBuilt at 1:1\n",
+        Status::Done,
+        b"accepted\n",
     ),
 ];
 
