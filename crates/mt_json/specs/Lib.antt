@@ -1,0 +1,4 @@
+pub mod Entries
+pub mod Extent
+pub mod Names
+pub mod Reading

@@ -1,0 +1,29 @@
+//! The tagged JSON of data, read exactly.
+//!
+//! [`read_data`] and [`read_arguments`] give the data whose text the bytes are, and refuse bytes that are no text of data
+//! within the limits: a space more, another escape of the same character or another spelling of a number is refused.
+//!
+//! A lenient reader finds the one datum that the bytes can be the text of, without recursion deeper than the limit; what it
+//! finds is measured, written again by `mt_json_write`, and compared with the bytes. So all that is owed of the lenient reader
+//! is that it finds the datum of each text that was written.
+//!
+//! The readers of code, pages and messages stand on this crate.
+#![tactic(auto)]
+
+mod datum;
+mod digit;
+mod extent;
+mod laws;
+mod names;
+mod reading;
+mod refusal;
+mod rest;
+mod scalars;
+mod values;
+
+pub use laws::{one_text_for_each_datum, one_text_for_each_list};
+pub use reading::{read_arguments, read_data};
+pub use refusal::DataRefusal;
+
+#[cfg(test)]
+mod tests;
