@@ -1,0 +1,12 @@
+pub mod Runs
+pub mod State
+pub mod Host
+pub mod References
+pub mod Expressions
+pub mod Calls
+pub mod Statements
+pub mod Building
+pub mod Names
+pub mod Hoisting
+pub mod Entering
+pub mod Evaluation
