@@ -1,0 +1,5 @@
+pub mod Free
+pub mod Scopes
+pub mod States
+pub mod Code
+pub mod Agreement
