@@ -117,7 +117,12 @@ fn put(properties: &mut Buffer<Property>, property: Property) -> Result<(), NoMe
     }
 }
 
-/// Writes a property of an object.
+/// Gives a property of an object its value by its key: one that is there keeps its place, and a new one goes last. Takes time linear
+/// in the properties.
+///
+/// # Errors
+/// `BadPropertyName` exactly where the key is no text or spells a whole number; the properties are then as before. `NoMemory`, also
+/// where they would pass 2^53 - 1.
 #[tactic(auto, unfolding(crate::specs::Objects::object_written))]
 pub fn write_object(
     alloc: Global,
