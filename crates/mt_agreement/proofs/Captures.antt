@@ -5,7 +5,7 @@ use Rattle.std.specs.Prelude.{slice_get}
 use Rattle.mt_agreement.specs.Code.{FunctionStands, captured_slots, lexical_of}
 use Rattle.mt_agreement.specs.Free.{cut, free_of}
 use Rattle.mt_agreement.specs.Scopes.{Scope, environment_of, IsBelow}
-use Rattle.mt_agreement.specs.States.{Numbered, zipped, closure_by, closures_in, closures_from, Knows, KnowsFunction, IsGood}
+use Rattle.mt_agreement.specs.States.{Numbered, zipped, closure_by, closures_in, closures_from, Knows, KnowsFunction, IsGood, kept_free, keeping_free}
 use Rattle.mt_agreement.proofs.Sim.{slots_view}
 use Rattle.mt_agreement.proofs.Views.{Sim}
 use Rattle.mt_agreement.proofs.Slots.{cut_same, cut_below, captured_same, captured_length}
@@ -42,8 +42,7 @@ module _ (table : List Numbered) where
       let e : 0 + length store ≡ length store = omega arith in
       closures_pushed store 0 c ∙ ap (λ n. closures_from table 0 store ++ closures_in table n c) e
 
-module _ (around : Surroundings) (units : List Code) (table : List Numbered)
-    (keeps : (own : Option (List ℕ)) (f : Function) (environment : Environment) → around.kept own f environment ≡ cut (λ b. b.name) (free_of around.tildes own f) environment) where
+module _ (around : Surroundings) (units : List Code) (table : List Numbered) where
   module _ (scope : Scope) (frame : Frame) (low : IsBelow (length frame) scope) (n : ℕ) (own : Option (List ℕ)) (f : Function) (stands : FunctionStands around units table scope n own f) where
     kept : Scope
     kept = captured_slots around units table own f scope
@@ -59,12 +58,12 @@ module _ (around : Surroundings) (units : List Code) (table : List Numbered)
     unfolding kept
     kept_low = cut_below (length frame) scope (free_of around.tildes own f) low
 
-    environment : zipped (map lexical_of kept) (captured frame (captures_of (slice_get units n))) ≡ around.kept own f (environment_of scope frame)
+    environment : zipped (map lexical_of kept) (captured frame (captures_of (slice_get units n))) ≡ kept_free around.tildes own f (environment_of scope frame)
     unfolding kept
     environment =
-        ap (zipped (map lexical_of kept)) captures ∙ captured_same kept frame kept_low ∙ sym (cut_same scope frame (free_of around.tildes own f)) ∙ sym (keeps own f (environment_of scope frame))
+        ap (zipped (map lexical_of kept)) captures ∙ captured_same kept frame kept_low ∙ sym (cut_same scope frame (free_of around.tildes own f))
 
-    closures : (at : ℕ) → closures_in table at (cell.Fun cell_of) ≡ (at, closure around own f (environment_of scope frame)) ∷ []
+    closures : (at : ℕ) → closures_in table at (cell.Fun cell_of) ≡ (at, closure (keeping_free around) own f (environment_of scope frame)) ∷ []
     unfolding cell_of kept
     closures at =
         ap (λ o. closure_by table o (record { function = n; captured = captured frame (captures_of (slice_get units n)) }) at) stands.entry
@@ -76,13 +75,13 @@ module _ (around : Surroundings) (units : List Code) (table : List Numbered)
         subst (λ o. KnowsFunction table o (record { function = n; captured = captured frame (captures_of (slice_get units n)) })) (sym stands.entry)
         (ap length captures ∙ captured_length kept frame kept_low ∙ sym (length-map kept lexical_of))
 
-    pub sim_capture : {H : Type 0} → Sim (slots_view {H = H} table) (on_state (frames.capture units n frame)) (capture (closure around own f (environment_of scope frame)))
+    pub sim_capture : {H : Type 0} → Sim (slots_view {H = H} table) (on_state (frames.capture units n frame)) (capture (closure (keeping_free around) own f (environment_of scope frame)))
     unfolding frames.capture add_cell capture cell_of
     sim_capture = record {
       run = λ s good. record {
         same =
             ap₂ (λ (k : ℕ) (cs : Closures). gives k (record s.0 { store = seen s.0.store ++ blank ∷ [] }, record { host = s.1; closures = cs })) (seen_length s.0.store)
-            (ap (λ k. closures_from table 0 s.0.store ++ (k, closure around own f (environment_of scope frame)) ∷ []) (seen_length s.0.store) ∙ sym (closures_of_push table s.0.store (cell.Fun cell_of) ∙ ap (λ cs. closures_from table 0 s.0.store ++ cs) (closures (length s.0.store))))
+            (ap (λ k. closures_from table 0 s.0.store ++ (k, closure (keeping_free around) own f (environment_of scope frame)) ∷ []) (seen_length s.0.store) ∙ sym (closures_of_push table s.0.store (cell.Fun cell_of) ∙ ap (λ cs. closures_from table 0 s.0.store ++ cs) (closures (length s.0.store))))
             ∙ ap (λ (cells : List Cell). gives (length s.0.store) (record s.0 { store = cells }, record { host = s.1; closures = closures_from table 0 (s.0.store ++ cell.Fun cell_of ∷ []) })) (sym (map-append seen_cell s.0.store (cell.Fun cell_of ∷ [])));
         good = good_pushed table s.0.store (cell.Fun cell_of) knows good;
       };

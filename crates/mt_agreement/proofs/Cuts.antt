@@ -1,5 +1,5 @@
 -- What functions keep of an environment is all that they look at.
-use Rattle.std.proofs.Common.{◌≡◌, ℕ, List, [], ◌∷◌, ◌++◌, Option, Some, Bool, true, false, cond, ◌||◌, refl, sym, ap, ◌∙◌}
+use Rattle.std.proofs.Common.{◌≡◌, ℕ, List, [], ◌∷◌, ◌++◌, map, Option, Some, Bool, true, false, cond, ◌||◌, refl, sym, ap, ◌∙◌}
 use Rattle.std.proofs.lemmas.Slice.Eq.{bytes_eq-Decides}
 use Rattle.mt_agreement.specs.Free.{Names, has, without, cut}
 use Rattle.mt_evaluation.specs.Names.{Binding, Environment, find}
@@ -38,6 +38,22 @@ has_left (x ∷ xs) ys y e = left_at (is_same y x) (has xs y) (has (xs ++ ys) y)
 pub has_right : (xs ys : Names) (y : List ℕ) → has ys y ≡ true → has (xs ++ ys) y ≡ true
 has_right [] ys y e = e
 has_right (x ∷ xs) ys y e = has_there x (xs ++ ys) y (has_right xs ys y e)
+
+split_at : (b r r' : Bool) → (r ≡ true → r' ≡ true) → (b || r) ≡ true → (b || r') ≡ true
+split_at true r r' h e = refl
+split_at false r r' h e = h e
+
+-- what is in both lists, and not in the second, is in the first
+pub has_split : (xs ys : Names) (y : List ℕ) → has (xs ++ ys) y ≡ true → has ys y ≡ false → has xs y ≡ true
+has_split [] ys y h n = let clash : true ≡ false = sym h ∙ n in cc
+has_split (x ∷ xs) ys y h n = split_at (is_same y x) (has (xs ++ ys) y) (has xs y) (λ k. has_split xs ys y k n) h
+
+pub false_by : (b : Bool) → (b ≡ true → ⊥) → b ≡ false
+false_by true h = absurd (h refl)
+false_by false h = refl
+
+pub clash : (b : Bool) → b ≡ true → b ≡ false → ⊥
+clash b h k = cc
 
 -- ---- a name that is not among some is kept
 
@@ -116,6 +132,9 @@ kept_twice free some (e ∷ env) h = kept_twice_at free some env e (has free e.n
 pub record Alike (names free : Names) (env env' : Environment) : Type 0 where
   pub cuts : (some : Names) → ((y : List ℕ) → has some y ≡ true → (has free y ≡ true) × (has names y ≡ false)) → kept some env' ≡ kept some env
 
+pub alike_same : (names free : Names) (env : Environment) → Alike names free env env
+alike_same names free env = record { cuts = λ some h. refl }
+
 pub alike_kept : (free : Names) (env : Environment) → Alike [] free env (kept free env)
 alike_kept free env = record { cuts = λ some h. kept_twice free some env (λ y k. (h y k).0) }
 
@@ -141,3 +160,53 @@ more_at b names free some env env' g h false p = g.cuts some (λ y k. let i = h 
 -- under one more binding
 pub alike_more : (b : Binding) (names free : Names) (env env' : Environment) → Alike (b.name ∷ names) free env env' → Alike names free (b ∷ env) (b ∷ env')
 alike_more b names free env env' g = record { cuts = λ some h. more_at b names free some env env' g h (has some b.name) refl }
+
+-- ---- agreement on less
+
+pub alike_less : (names free less : Names) (env env' : Environment) → ((y : List ℕ) → has less y ≡ true → has free y ≡ true) → Alike names free env env' → Alike names less env env'
+alike_less names free less env env' h a = record { cuts = λ some k. a.cuts some (λ y i. let j = k y i in (h y j.0, j.1)) }
+
+pub alike_left : (xs ys : Names) (env env' : Environment) → Alike [] (xs ++ ys) env env' → Alike [] xs env env'
+alike_left xs ys env env' a = alike_less [] (xs ++ ys) xs env env' (λ y h. has_left xs ys y h) a
+
+pub alike_right : (xs ys : Names) (env env' : Environment) → Alike [] (xs ++ ys) env env' → Alike [] ys env env'
+alike_right xs ys env env' a = alike_less [] (xs ++ ys) ys env env' (λ y h. has_right xs ys y h) a
+
+-- names that come next may be any
+pub alike_names : (names more free : Names) (env env' : Environment) → ((y : List ℕ) → has more y ≡ false → has names y ≡ false) → Alike names free env env' → Alike more free env env'
+alike_names names more free env env' h a = record { cuts = λ some k. a.cuts some (λ y i. let j = k y i in (j.0, h y j.1)) }
+
+pub alike_without : (some free : Names) (env env' : Environment) → Alike [] (without some free) env env' → Alike some free env env'
+alike_without some free env env' a = record { cuts = λ names k. a.cuts names (λ y i. let j = k y i in (has_without some free y j.1 j.0, refl)) }
+
+-- the names that come next may count as free
+pub alike_bound : (names free : Names) (env env' : Environment) → Alike names free env env' → Alike names (free ++ names) env env'
+alike_bound names free env env' a = record { cuts = λ some k. a.cuts some (λ y i. let j = k y i in (has_split free names y j.0 j.1, j.1)) }
+
+-- under a whole scope
+abbrev pub names_in : Environment → Names
+names_in scope = map (λ b. b.name) scope
+
+pub in_neither : (xs ys : Names) (y : List ℕ) → has (xs ++ ys) y ≡ false → (has xs y ≡ false) × (has ys y ≡ false)
+in_neither xs ys y h = (false_by (has xs y) (λ k. clash (has (xs ++ ys) y) (has_left xs ys y k) h), false_by (has ys y) (λ k. clash (has (xs ++ ys) y) (has_right xs ys y k) h))
+
+none_of : (b r : Bool) → b ≡ false → r ≡ false → (b || r) ≡ false
+none_of b true e n = cc
+none_of true r e n = cc
+none_of false false e n = refl
+
+first_last : (x : List ℕ) (xs ys : Names) (y : List ℕ) → has (xs ++ x ∷ ys) y ≡ false → has (x ∷ (xs ++ ys)) y ≡ false
+first_last x xs ys y h =
+    let n = in_neither xs (x ∷ ys) y h in
+    let head : is_same y x ≡ false = false_by (is_same y x) (λ e. clash (has (x ∷ ys) y) (has_here x ys y e) n.1) in
+    let tail : has ys y ≡ false = false_by (has ys y) (λ e. clash (has (x ∷ ys) y) (has_there x ys y e) n.1) in
+    none_of (is_same y x) (has (xs ++ ys) y) head (in_none xs ys y n.0 tail)
+  where
+    in_none : (xs ys : Names) (y : List ℕ) → has xs y ≡ false → has ys y ≡ false → has (xs ++ ys) y ≡ false
+    in_none xs ys y h k = false_by (has (xs ++ ys) y) (λ e. clash (has xs y) (has_split xs ys y e k) h)
+
+pub alike_scope : (scope : Environment) (names free : Names) (env env' : Environment) → Alike (names_in scope ++ names) free env env' → Alike names free (scope ++ env) (scope ++ env')
+alike_scope [] names free env env' a = a
+alike_scope (b ∷ scope) names free env env' a =
+    alike_more b names free (scope ++ env) (scope ++ env')
+    (alike_scope scope (b.name ∷ names) free env env' (alike_names (b.name ∷ (names_in scope ++ names)) (names_in scope ++ b.name ∷ names) free env env' (λ y h. first_last b.name (names_in scope) names y h) a))

@@ -5,9 +5,8 @@ use Rattle.std.proofs.lemmas.List.{append-nil}
 use Rattle.std.specs.Prelude.{slice_get}
 use Rattle.mt_agreement.specs.Agreement.{file_on_slots}
 use Rattle.mt_agreement.specs.Code.{AllStand, StmtStandsTo, CodeStands, TableStands, FileStands, ClientCodeStands}
-use Rattle.mt_agreement.specs.Free.{cut, free_of}
 use Rattle.mt_agreement.specs.Scopes.{Scope, environment_of, IsBelow, body_entry}
-use Rattle.mt_agreement.specs.States.{Numbered, zipped, closure_by, closures_in, closures_from, view, IsGood, Knows, KnowsFunction}
+use Rattle.mt_agreement.specs.States.{Numbered, zipped, closure_by, closures_in, closures_from, view, IsGood, Knows, KnowsFunction, keeping_free}
 use Rattle.mt_agreement.proofs.Expressions.{SimExprs, case_expr}
 use Rattle.mt_agreement.proofs.Functions.{closure_of, scope_of, function_then, file_scope, file_then, client_scope, client_then}
 use Rattle.mt_agreement.proofs.Keeps.{keep_spend, keep_throw}
@@ -117,30 +116,29 @@ module _ (table : List Numbered) where
   known_in (c ∷ store) (suc at) h = known_in store at h.1
 
 module _ {H : Type 0} (around : Surroundings) (units : List Code) (table : List Numbered)
-    (keeps : (own : Option (List ℕ)) (f : Function) (environment : Environment) → around.kept own f environment ≡ cut (λ b. b.name) (free_of around.tildes own f) environment)
     (host : Meaning H) where
   module _ (f : FunCell → Eval H Value) (g : Closure → Eval (Named H) Value)
       (each : (c : FunCell) (n : Numbered) → slice_get table c.function ≡ Some n → length c.captured ≡ length n.names → Sim (slots_view table) (f c) (g (record { own = n.own; function = n.function; environment = zipped n.names c.captured }))) where
-    entered_in : (c : FunCell) (o : Option Numbered) → slice_get table c.function ≡ o → KnowsFunction table o c → (s : State × H) → IsGood table s.0.store → Agrees (slots_view table) (f c s) (names.entered_by around host g (closure_in table o c) (view table s))
+    entered_in : (c : FunCell) (o : Option Numbered) → slice_get table c.function ≡ o → KnowsFunction table o c → (s : State × H) → IsGood table s.0.store → Agrees (slots_view table) (f c s) (names.entered_by (keeping_free around) host g (closure_in table o c) (view table s))
     entered_in c None is known s good = absurd known
     entered_in c (Some n) is known s good = (each c n is known).run s good
 
-    entered_at : (o : Option FunCell) → KnowsIn table o → (s : State × H) → IsGood table s.0.store → Agrees (slots_view table) (slots.entered_by f o s) (names.entered_by around host g (closure_for table o) (view table s))
+    entered_at : (o : Option FunCell) → KnowsIn table o → (s : State × H) → IsGood table s.0.store → Agrees (slots_view table) (slots.entered_by f o s) (names.entered_by (keeping_free around) host g (closure_for table o) (view table s))
     entered_at None known s good = (sim_on_state (slots_view table) (keep_throw table error.NotFunction)).run s good
     entered_at (Some c) known s good = entered_in c (slice_get table c.function) refl known s good
 
-    entered_sim : (at : ℕ) → Sim (slots_view table) (slots.with_function at f) (names.with_closure around host at g)
+    entered_sim : (at : ℕ) → Sim (slots_view table) (slots.with_function at f) (names.with_closure (keeping_free around) host at g)
     unfolding slots.with_function
     entered_sim at = record {
       run = λ s good.
-          subst (λ o. Agrees (slots_view table) (slots.entered_by f (function_in (slice_get s.0.store at)) s) (names.entered_by around host g o (view table s))) (sym (closure_found table s.0.store at))
+          subst (λ o. Agrees (slots_view table) (slots.entered_by f (function_in (slice_get s.0.store at)) s) (names.entered_by (keeping_free around) host g o (view table s))) (sym (closure_found table s.0.store at))
           (entered_at (function_in (slice_get s.0.store at)) (known_in table s.0.store at good) s good);
     }
 
   -- ---- the levels
 
-  module _ (m : slots.Enter H) (n : names.Enter around host) (enters : (at : ℕ) (vs : List Value) → Sim (slots_view table) (m at vs) (n at vs)) where
-    level_exprs : (depth more : ℕ) → depth ≤ more → SimExprs around units table keeps depth (slots.over host m (slots.level units host m depth)) (names.parts around host n more)
+  module _ (m : slots.Enter H) (n : names.Enter (keeping_free around) host) (enters : (at : ℕ) (vs : List Value) → Sim (slots_view table) (m at vs) (n at vs)) where
+    level_exprs : (depth more : ℕ) → depth ≤ more → SimExprs around units table depth (slots.over host m (slots.level units host m depth)) (names.parts (keeping_free around) host n more)
     unfolding slots.expr names.expr
     level_exprs depth more deep zero le scope frame u e low h = absurd h
     level_exprs zero more deep (suc k) le scope frame u e low h = absurd (omega (arith, le))
@@ -148,9 +146,9 @@ module _ {H : Type 0} (around : Surroundings) (units : List Code) (table : List 
     level_exprs (suc depth) (suc more) deep (suc k) le scope frame u e low h =
         let shallow : depth ≤ more = omega (arith, deep) in
         let lower : k ≤ depth = omega (arith, le) in
-        case_expr around units table keeps depth (slots.over host m (slots.level units host m depth)) (names.outside_with around host n) (names.parts around host n more) (host_calls table host m n enters) (level_exprs depth more shallow) scope frame low k lower (code.out-Expr u) (expr_kind_of e) h
+        case_expr around units table depth (slots.over host m (slots.level units host m depth)) (names.outside_with (keeping_free around) host n) (names.parts (keeping_free around) host n more) (host_calls table host m n enters) (level_exprs depth more shallow) scope frame low k lower (code.out-Expr u) (expr_kind_of e) h
 
-    level_stmts : (depth more : ℕ) → depth ≤ more → SimStmts around units table keeps depth (slots.over host m (slots.level units host m depth)) (names.parts around host n more)
+    level_stmts : (depth more : ℕ) → depth ≤ more → SimStmts around units table depth (slots.over host m (slots.level units host m depth)) (names.parts (keeping_free around) host n more)
     unfolding slots.stmt names.stmt
     level_stmts depth more deep zero le scope frame u t low h = absurd h
     level_stmts zero more deep (suc k) le scope frame u t low h = absurd (omega (arith, le))
@@ -159,64 +157,64 @@ module _ {H : Type 0} (around : Surroundings) (units : List Code) (table : List 
         let shallow : depth ≤ more = omega (arith, deep) in
         let lower : k ≤ depth = omega (arith, le) in
         sim_bind (slots_view table) (sim_on_state (slots_view table) (keep_spend table 0)) (λ _.
-        case_stmt around units table keeps depth (slots.over host m (slots.level units host m depth)) (names.outside_with around host n) (names.parts around host n more) (level_exprs depth more shallow) (level_stmts depth more shallow) scope frame low k lower (code_stmt.out-Stmt u) (kind_of t) h)
+        case_stmt around units table depth (slots.over host m (slots.level units host m depth)) (names.outside_with (keeping_free around) host n) (names.parts (keeping_free around) host n more) (level_exprs depth more shallow) (level_stmts depth more shallow) scope frame low k lower (code_stmt.out-Stmt u) (kind_of t) h)
 
     -- the statements of a body
     level_body : (scope : Scope) (frame : Frame) (us : List code_stmt.Stmt) (ts : List Stmt) → IsBelow (length frame) scope → AllStand (StmtStandsTo around units table deepest scope (length frame)) us ts
-        → Sim (slots_view table) (slots.body units (slots.over host m (slots.level units host m deepest)) us frame) (names.body around (names.outside_with around host n) (names.parts around host n deepest) ts (environment_of scope frame))
+        → Sim (slots_view table) (slots.body units (slots.over host m (slots.level units host m deepest)) us frame) (names.body (keeping_free around) (names.outside_with (keeping_free around) host n) (names.parts (keeping_free around) host n deepest) ts (environment_of scope frame))
     level_body scope frame us ts low h =
         let same : deepest ≤ deepest = omega arith in
-        body_sim around units table keeps deepest (slots.over host m (slots.level units host m deepest)) (names.outside_with around host n) (names.parts around host n deepest) (level_exprs deepest deepest same) (level_stmts deepest deepest same) deepest same scope frame us ts low h
+        body_sim around units table deepest (slots.over host m (slots.level units host m deepest)) (names.outside_with (keeping_free around) host n) (names.parts (keeping_free around) host n deepest) (level_exprs deepest deepest same) (level_stmts deepest deepest same) deepest same scope frame us ts low h
 
     called_sim : (c : Code) (e : Numbered) → CodeStands around units table c e → (captured : Frame) → length captured ≡ length e.names → (at : ℕ) (vs : List Value)
-        → Sim (slots_view table) (slots.function_body units (slots.over host m (slots.level units host m deepest)) (Some c) captured at vs) (names.function_body around (names.outside_with around host n) (names.parts around host n deepest) (closure_of e captured) at vs)
+        → Sim (slots_view table) (slots.function_body units (slots.over host m (slots.level units host m deepest)) (Some c) captured at vs) (names.function_body (keeping_free around) (names.outside_with (keeping_free around) host n) (names.parts (keeping_free around) host n deepest) (closure_of e captured) at vs)
     unfolding names.function_body
     called_sim c e stands captured same at vs =
         let ts = (out-Function e.function).body in
-        function_then around units table keeps c e stands captured same at vs (slots.body units (slots.over host m (slots.level units host m deepest)) c.body.statements)
-        (names.body around (names.outside_with around host n) (names.parts around host n deepest) ts) (λ inner long low.
+        function_then around units table c e stands captured same at vs (slots.body units (slots.over host m (slots.level units host m deepest)) c.body.statements)
+        (names.body (keeping_free around) (names.outside_with (keeping_free around) host n) (names.parts (keeping_free around) host n deepest) ts) (λ inner long low.
         level_body (scope_of around units table e) inner c.body.statements ts low (subst (λ (k : ℕ). AllStand (StmtStandsTo around units table deepest (scope_of around units table e) k) c.body.statements ts) long stands.body.statements))
 
   module _ (stands : TableStands around units table) where
-    pub enter_sim : (calls : ℕ) (at : ℕ) (vs : List Value) → Sim (slots_view table) (slots.enter_to units host calls at vs) (names.enter_to around host calls at vs)
+    pub enter_sim : (calls : ℕ) (at : ℕ) (vs : List Value) → Sim (slots_view table) (slots.enter_to units host calls at vs) (names.enter_to (keeping_free around) host calls at vs)
     enter_sim zero at vs = entered_sim (λ c. λ s. leaves (exit.Stop stop.Depth) s) (λ c. λ s. leaves (exit.Stop stop.Depth) s) (λ c n is known. sim_leave (slots_view table) (exit.Stop stop.Depth)) at
     enter_sim (suc calls) at vs =
         let m = slots.enter_to units host calls in
-        let n = names.enter_to around host calls in
+        let n = names.enter_to (keeping_free around) host calls in
         entered_sim (λ c. slots.function_body units (slots.over host m (slots.level units host m deepest)) (slice_get units c.function) c.captured at vs)
-        (λ c. names.function_body around (names.outside_with around host n) (names.parts around host n deepest) c at vs) (λ c e is known.
+        (λ c. names.function_body (keeping_free around) (names.outside_with (keeping_free around) host n) (names.parts (keeping_free around) host n deepest) c at vs) (λ c e is known.
         let found = stands.code c.function e is in
-        subst (λ (o : Option Code). Sim (slots_view table) (slots.function_body units (slots.over host m (slots.level units host m deepest)) o c.captured at vs) (names.function_body around (names.outside_with around host n) (names.parts around host n deepest) (closure_of e c.captured) at vs)) (sym found.1)
+        subst (λ (o : Option Code). Sim (slots_view table) (slots.function_body units (slots.over host m (slots.level units host m deepest)) o c.captured at vs) (names.function_body (keeping_free around) (names.outside_with (keeping_free around) host n) (names.parts (keeping_free around) host n deepest) (closure_of e c.captured) at vs)) (sym found.1)
         (called_sim m n (enter_sim calls) found.0 e found.2 c.captured known at vs)) at
 
     -- ---- whole jobs
 
-    pub called_agrees : (f : Value) (vs : List Value) → Sim (slots_view table) (slots.called units host f vs) (names.called around host f vs)
+    pub called_agrees : (f : Value) (vs : List Value) → Sim (slots_view table) (slots.called units host f vs) (names.called (keeping_free around) host f vs)
     unfolding slots.called slots.parts names.called
     called_agrees f vs =
-        applied_sim (slots_view table) (slots.over host (slots.enter_to units host (suc most_calls)) (slots.level units host (slots.enter_to units host (suc most_calls)) deepest)).outside (names.outside_with around host (names.enter_to around host (suc most_calls)))
-        (host_calls table host (slots.enter_to units host (suc most_calls)) (names.enter_to around host (suc most_calls)) (enter_sim (suc most_calls))) f vs
+        applied_sim (slots_view table) (slots.over host (slots.enter_to units host (suc most_calls)) (slots.level units host (slots.enter_to units host (suc most_calls)) deepest)).outside (names.outside_with (keeping_free around) host (names.enter_to (keeping_free around) host (suc most_calls)))
+        (host_calls table host (slots.enter_to units host (suc most_calls)) (names.enter_to (keeping_free around) host (suc most_calls)) (enter_sim (suc most_calls))) f vs
 
-    pub client_agrees : (u : Unit') (items : List Stmt) → ClientCodeStands around units table u items → Sim (slots_view table) (slots.unit units host u) (names.client_code around host items)
+    pub client_agrees : (u : Unit') (items : List Stmt) → ClientCodeStands around units table u items → Sim (slots_view table) (slots.unit units host u) (names.client_code (keeping_free around) host items)
     unfolding slots.unit slots.parts names.client_code
     client_agrees u items code =
         let m = slots.enter_to units host most_calls in
-        let n = names.enter_to around host most_calls in
-        client_then around units table keeps u items code (slots.body units (slots.over host m (slots.level units host m deepest)) u.body.statements) (names.body around (names.outside_with around host n) (names.parts around host n deepest) items) (λ inner long low.
+        let n = names.enter_to (keeping_free around) host most_calls in
+        client_then around units table u items code (slots.body units (slots.over host m (slots.level units host m deepest)) u.body.statements) (names.body (keeping_free around) (names.outside_with (keeping_free around) host n) (names.parts (keeping_free around) host n deepest) items) (λ inner long low.
         level_body m n (enter_sim most_calls) (client_scope items) inner u.body.statements items low
         (subst (λ (k : ℕ). AllStand (StmtStandsTo around units table deepest (client_scope items) k) u.body.statements items) long code.statements))
 
     -- the file gives the environment of its top, which its frame gives to the entry
-    pub file_agrees : (u : Unit') (items : List Stmt) → FileStands around units table u items → Sim (slots_view table) (file_on_slots units host u items) (names.file around host items)
+    pub file_agrees : (u : Unit') (items : List Stmt) → FileStands around units table u items → Sim (slots_view table) (file_on_slots units host u items) (names.file (keeping_free around) host items)
     unfolding slots.parts names.file
     file_agrees u items code =
         let m = slots.enter_to units host most_calls in
-        let n = names.enter_to around host most_calls in
+        let n = names.enter_to (keeping_free around) host most_calls in
         let scope = file_scope items in
         let entry = body_entry 0 None [] items in
-        file_then around units table keeps u items code
+        file_then around units table u items code
         (λ frame s. and_then (slots.body units (slots.over host m (slots.level units host m deepest)) u.body.statements frame s) (λ _ s. gives (environment_of entry frame) s))
-        (λ env s. and_then (names.body around (names.outside_with around host n) (names.parts around host n deepest) items env s) (λ _ s. gives env s)) (λ inner long low.
+        (λ env s. and_then (names.body (keeping_free around) (names.outside_with (keeping_free around) host n) (names.parts (keeping_free around) host n deepest) items env s) (λ _ s. gives env s)) (λ inner long low.
         sim_bind (slots_view table) (level_body m n (enter_sim most_calls) scope inner u.body.statements items low
         (subst (λ (k : ℕ). AllStand (StmtStandsTo around units table deepest scope k) u.body.statements items) long code.body.statements)) (λ _.
         subst (λ (z : Environment). Sim (slots_view {H = H} table) (λ s. gives z s) (λ s. gives (environment_of scope inner) s)) (ap (λ (z : Scope). environment_of z inner) (append-nil entry)) (sim_pure (slots_view table) (environment_of scope inner))))

@@ -17,4 +17,10 @@ pub mod Statements
 pub mod Levels
 pub mod Trims
 pub mod Cuts
+pub mod Nests
+pub mod Uses
+pub mod Bound
+pub mod FreeExpressions
+pub mod FreeStatements
+pub mod FreeLevels
 pub mod Laws

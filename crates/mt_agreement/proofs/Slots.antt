@@ -4,7 +4,7 @@ use Rattle.std.specs.Prelude.{slice_get, slice_index_or}
 use Rattle.mt_agreement.specs.Free.{Names, has, without, cut}
 use Rattle.mt_agreement.specs.Scopes.{Slot, Scope, find_slot, environment_of, IsBelow, outer_binding, slot_or_outer, binding_of}
 use Rattle.mt_agreement.specs.Code.{lexical_of}
-use Rattle.mt_agreement.specs.States.{zipped}
+use Rattle.mt_agreement.specs.States.{zipped, keeping_free}
 use Rattle.mt_evaluation.specs.Names.{Binding, Environment, Surroundings, find, referent_outside, builtin_or_global, builtin_of, bound_or_outside, referent}
 use Rattle.mt_evaluation.specs.declared.reference.Referent.TheVariants as refers
 use Rattle.mt_slots.specs.Frames as frames
@@ -27,19 +27,19 @@ outer_at : (frame : Frame) (b : Bool) (n : Option Native) → frames.referent fr
 outer_at frame true n = refl
 outer_at frame false n = native_outer frame n
 
-outer_same : (around : Surroundings) (frame : Frame) (name : List ℕ) → frames.referent frame (outer_binding (referent_outside around name)) ≡ referent_outside around name
+outer_same : (around : Surroundings) (frame : Frame) (name : List ℕ) → frames.referent frame (outer_binding (referent_outside around name)) ≡ referent_outside (keeping_free around) name
 unfolding referent_outside
 outer_same around frame name = outer_at frame (list_any (is_same name) around.services) (builtin_of around.tier name)
 
 module _ (around : Surroundings) (frame : Frame) (name : List ℕ) where
   found_at : (b : Bool) (s : Slot) (scope : Scope) → s.slot < length frame
-      → frames.referent frame (slot_or_outer (find_slot name scope) (outer_binding (referent_outside around name))) ≡ bound_or_outside (find name (environment_of scope frame)) around name
+      → frames.referent frame (slot_or_outer (find_slot name scope) (outer_binding (referent_outside around name))) ≡ bound_or_outside (find name (environment_of scope frame)) (keeping_free around) name
       → frames.referent frame (slot_or_outer (cond {A = Option Slot} b (Some s) (find_slot name scope)) (outer_binding (referent_outside around name)))
-      ≡ bound_or_outside (cond {A = Option Binding} b (Some (record { name = s.name; address = slice_index_or frame s.slot 0; constant = s.constant })) (find name (environment_of scope frame))) around name
+      ≡ bound_or_outside (cond {A = Option Binding} b (Some (record { name = s.name; address = slice_index_or frame s.slot 0; constant = s.constant })) (find name (environment_of scope frame))) (keeping_free around) name
   found_at true s scope low rest = ap (λ o. frames.slot_referent o s.constant) (slot_there frame s.slot low)
   found_at false s scope low rest = rest
 
-  pub referent_same : (scope : Scope) → IsBelow (length frame) scope → frames.referent frame (binding_of around scope name) ≡ referent around (environment_of scope frame) name
+  pub referent_same : (scope : Scope) → IsBelow (length frame) scope → frames.referent frame (binding_of around scope name) ≡ referent (keeping_free around) (environment_of scope frame) name
   referent_same [] low = outer_same around frame name
   referent_same (s ∷ scope) low = found_at (is_same name s.name) s scope low.0 (referent_same scope low.1)
 

@@ -1,9 +1,8 @@
 -- Code on slots that stands for a statement does what it does, over parts that do.
 use Rattle.std.proofs.Common.{◌≡◌, ℕ, zero, suc, ◌+◌, ◌≤◌, true, false, List, [], ◌∷◌, ◌++◌, length, map, Option, Some, None, sym, subst, arith}
 use Rattle.mt_agreement.specs.Code.{AllStand, OptionalStands, ExprStandsTo, StmtStands, StmtStandsTo, NameStands, DeclStands, StartStands, block_scope}
-use Rattle.mt_agreement.specs.Free.{cut, free_of}
 use Rattle.mt_agreement.specs.Scopes.{Scope, environment_of, IsBelow, with_name}
-use Rattle.mt_agreement.specs.States.{Numbered}
+use Rattle.mt_agreement.specs.States.{Numbered, keeping_free}
 use Rattle.mt_agreement.proofs.Blocks.{alone_then, lexicals_then}
 use Rattle.mt_agreement.proofs.Endings.{sim_expression, sim_finished, sim_given_back, sim_thrown, sim_sequence, sim_choice, sim_loop, sim_starting, sim_attempt}
 use Rattle.mt_agreement.proofs.Expressions.{SimExprs}
@@ -45,14 +44,13 @@ use Rattle.mt_syntax.specs.declared.tree.VarKind.TheVariants as word
 use Rattle.mt_value.specs.declared.value.Value.{Value}
 use Rattle.mt_value.specs.declared.value.Value.TheVariants as value
 
-module _ {H : Type 0} (around : Surroundings) (units : List Code) (table : List Numbered)
-    (keeps : (own : Option (List ℕ)) (f : Function) (environment : Environment) → around.kept own f environment ≡ cut (λ b. b.name) (free_of around.tildes own f) environment) where
+module _ {H : Type 0} (around : Surroundings) (units : List Code) (table : List Numbered) where
   abbrev pub SimStmts : ℕ → slots.Parts H → names.Parts H → Type 0
   SimStmts depth p q =
       (k : ℕ) → k ≤ depth → (scope : Scope) (frame : Frame) (u : code.Stmt) (t : Stmt) → IsBelow (length frame) scope → StmtStandsTo around units table k scope (length frame) u t
       → Sim (slots_view table) (p.stmt u frame) (q.stmt t (environment_of scope frame))
 
-  module _ (depth : ℕ) (p : slots.Parts H) (outside : Outside (Named H)) (q : names.Parts H) (exprs : SimExprs around units table keeps depth p q) (inside : SimStmts depth p q) where
+  module _ (depth : ℕ) (p : slots.Parts H) (outside : Outside (Named H)) (q : names.Parts H) (exprs : SimExprs around units table depth p q) (inside : SimStmts depth p q) where
     pub stmts_sim : (k : ℕ) → k ≤ depth → (scope : Scope) (frame : Frame) (us : List code.Stmt) (ts : List Stmt) → IsBelow (length frame) scope → AllStand (StmtStandsTo around units table k scope (length frame)) us ts
         → AllSim (slots_view table) (map (λ u. p.stmt u frame) us) (map (λ t. q.stmt t (environment_of scope frame)) ts)
     stmts_sim k le scope frame [] [] low h = none
@@ -61,7 +59,7 @@ module _ {H : Type 0} (around : Surroundings) (units : List Code) (table : List 
     stmts_sim k le scope frame (u ∷ us) [] low h = absurd h
 
     pub body_sim : (k : ℕ) → k ≤ depth → (scope : Scope) (frame : Frame) (us : List code.Stmt) (ts : List Stmt) → IsBelow (length frame) scope → AllStand (StmtStandsTo around units table k scope (length frame)) us ts
-        → Sim (slots_view table) (slots.body units p us frame) (names.body around outside q ts (environment_of scope frame))
+        → Sim (slots_view table) (slots.body units p us frame) (names.body (keeping_free around) outside q ts (environment_of scope frame))
     unfolding slots.body names.body
     body_sim k le scope frame us ts low h = sim_bind (slots_view table) (sim_sequence (slots_view table) (stmts_sim k le scope frame us ts low h)) (λ c. sim_pure (slots_view table) (returned c))
 
@@ -69,23 +67,23 @@ module _ {H : Type 0} (around : Surroundings) (units : List Code) (table : List 
       -- ---- declarations
 
       declared_at : (k : ℕ) → k ≤ depth → (kind : VarKind) (n : Name) (text : List ℕ) (u : Option code_expr.Expr) (e : Option Expr) → NameStands around units table scope n text → OptionalStands (ExprStandsTo around units table k scope) u e
-          → Sim (slots_view table) (slots.declared_by units p kind n u frame) (names.declared_by around outside q kind text e (environment_of scope frame))
+          → Sim (slots_view table) (slots.declared_by units p kind n u frame) (names.declared_by (keeping_free around) outside q kind text e (environment_of scope frame))
       declared_at k le word.Var n text None None s h = sim_pure (slots_view table) tt
-      declared_at k le word.Var n text (Some u) (Some e) s h = sim_bind (slots_view table) (exprs k le scope frame u e low h) (λ v. write_sim around units table keeps scope frame low n text s v)
-      declared_at k le word.Let n text None None s h = declare_sim around units table keeps scope frame low n text s value.Undefined
-      declared_at k le word.Let n text (Some u) (Some e) s h = sim_bind (slots_view table) (exprs k le scope frame u e low h) (λ v. declare_sim around units table keeps scope frame low n text s v)
-      declared_at k le word.Const n text None None s h = declare_sim around units table keeps scope frame low n text s value.Undefined
-      declared_at k le word.Const n text (Some u) (Some e) s h = sim_bind (slots_view table) (exprs k le scope frame u e low h) (λ v. declare_sim around units table keeps scope frame low n text s v)
+      declared_at k le word.Var n text (Some u) (Some e) s h = sim_bind (slots_view table) (exprs k le scope frame u e low h) (λ v. write_sim around units table scope frame low n text s v)
+      declared_at k le word.Let n text None None s h = declare_sim around units table scope frame low n text s value.Undefined
+      declared_at k le word.Let n text (Some u) (Some e) s h = sim_bind (slots_view table) (exprs k le scope frame u e low h) (λ v. declare_sim around units table scope frame low n text s v)
+      declared_at k le word.Const n text None None s h = declare_sim around units table scope frame low n text s value.Undefined
+      declared_at k le word.Const n text (Some u) (Some e) s h = sim_bind (slots_view table) (exprs k le scope frame u e low h) (λ v. declare_sim around units table scope frame low n text s v)
       declared_at k le kind n text None (Some e) s h = absurd h
       declared_at k le kind n text (Some u) None s h = absurd h
 
       declaration_sim : (k : ℕ) → k ≤ depth → (kind : VarKind) (d : code_decl.Decl) (e : Decl) → DeclStands around units table (ExprStandsTo around units table k) scope d e
-          → Sim (slots_view table) (slots.declaration units p kind frame d) (names.declaration around outside q kind e (environment_of scope frame))
+          → Sim (slots_view table) (slots.declaration units p kind frame d) (names.declaration (keeping_free around) outside q kind e (environment_of scope frame))
       unfolding slots.declaration
       declaration_sim k le kind d e h = declared_at k le kind d.name (out-Decl e).name.name d.value (out-Decl e).value h.0 h.1
 
       declarations_sim : (k : ℕ) → k ≤ depth → (kind : VarKind) (ds : List code_decl.Decl) (es : List Decl) → AllStand (DeclStands around units table (ExprStandsTo around units table k) scope) ds es
-          → Sim (slots_view table) (slots.declarations units p kind ds frame) (names.declarations around outside q kind es (environment_of scope frame))
+          → Sim (slots_view table) (slots.declarations units p kind ds frame) (names.declarations (keeping_free around) outside q kind es (environment_of scope frame))
       declarations_sim k le kind [] [] h = sim_pure (slots_view table) tt
       declarations_sim k le kind (d ∷ ds) (e ∷ es) h = sim_bind (slots_view table) (declaration_sim k le kind d e h.0) (λ _. declarations_sim k le kind ds es h.1)
       declarations_sim k le kind [] (e ∷ es) h = absurd h
@@ -93,31 +91,31 @@ module _ {H : Type 0} (around : Surroundings) (units : List Code) (table : List 
 
       -- ---- the parts of a loop, and others that may be absent
 
-      start_at : (k : ℕ) → k ≤ depth → (u : ForStart) (e : ForStartLayer Tree) → StartStands around units table (ExprStandsTo around units table k) scope u e → Sim (slots_view table) (slots.started_by units p u frame) (names.started_by around outside q e (environment_of scope frame))
+      start_at : (k : ℕ) → k ≤ depth → (u : ForStart) (e : ForStartLayer Tree) → StartStands around units table (ExprStandsTo around units table k) scope u e → Sim (slots_view table) (slots.started_by units p u frame) (names.started_by (keeping_free around) outside q e (environment_of scope frame))
       start_at k le start.Absent ForStart-F.Absent h = sim_pure (slots_view table) tt
       start_at k le (start.Var ds) (ForStart-F.ForStart::Var es) h = declarations_sim k le word.Var ds es h
       start_at k le (start.Expr u) (ForStart-F.ForStart::Expr e) h = sim_bind (slots_view table) (exprs k le scope frame u e low h) (λ _. sim_pure (slots_view table) tt)
       start_at k le _ _ h = absurd h
 
-      tested_at : (k : ℕ) → k ≤ depth → (u : Option code_expr.Expr) (e : Option Expr) → OptionalStands (ExprStandsTo around units table k scope) u e → Sim (slots_view table) (slots.tested_by units p u frame) (names.tested_by around outside q e (environment_of scope frame))
+      tested_at : (k : ℕ) → k ≤ depth → (u : Option code_expr.Expr) (e : Option Expr) → OptionalStands (ExprStandsTo around units table k scope) u e → Sim (slots_view table) (slots.tested_by units p u frame) (names.tested_by (keeping_free around) outside q e (environment_of scope frame))
       tested_at k le None None h = sim_pure (slots_view table) (value.Bool true)
       tested_at k le (Some u) (Some e) h = exprs k le scope frame u e low h
       tested_at k le None (Some e) h = absurd h
       tested_at k le (Some u) None h = absurd h
 
-      stepped_at : (k : ℕ) → k ≤ depth → (u : Option code_expr.Expr) (e : Option Expr) → OptionalStands (ExprStandsTo around units table k scope) u e → Sim (slots_view table) (slots.stepped_by units p u frame) (names.stepped_by around outside q e (environment_of scope frame))
+      stepped_at : (k : ℕ) → k ≤ depth → (u : Option code_expr.Expr) (e : Option Expr) → OptionalStands (ExprStandsTo around units table k scope) u e → Sim (slots_view table) (slots.stepped_by units p u frame) (names.stepped_by (keeping_free around) outside q e (environment_of scope frame))
       stepped_at k le None None h = sim_pure (slots_view table) tt
       stepped_at k le (Some u) (Some e) h = sim_bind (slots_view table) (exprs k le scope frame u e low h) (λ _. sim_pure (slots_view table) tt)
       stepped_at k le None (Some e) h = absurd h
       stepped_at k le (Some u) None h = absurd h
 
-      else_at : (k : ℕ) → k ≤ depth → (u : Option code.Stmt) (t : Option Stmt) → OptionalStands (StmtStandsTo around units table k scope (length frame)) u t → Sim (slots_view table) (slots.or_else units p u frame) (names.or_else around outside q t (environment_of scope frame))
+      else_at : (k : ℕ) → k ≤ depth → (u : Option code.Stmt) (t : Option Stmt) → OptionalStands (StmtStandsTo around units table k scope (length frame)) u t → Sim (slots_view table) (slots.or_else units p u frame) (names.or_else (keeping_free around) outside q t (environment_of scope frame))
       else_at k le None None h = sim_pure (slots_view table) completion.Normal
       else_at k le (Some u) (Some t) h = inside k le scope frame u t low h
       else_at k le None (Some t) h = absurd h
       else_at k le (Some u) None h = absurd h
 
-      returned_at : (k : ℕ) → k ≤ depth → (u : Option code_expr.Expr) (e : Option Expr) → OptionalStands (ExprStandsTo around units table k scope) u e → Sim (slots_view table) (slots.returned_by units p u frame) (names.returned_by around outside q e (environment_of scope frame))
+      returned_at : (k : ℕ) → k ≤ depth → (u : Option code_expr.Expr) (e : Option Expr) → OptionalStands (ExprStandsTo around units table k scope) u e → Sim (slots_view table) (slots.returned_by units p u frame) (names.returned_by (keeping_free around) outside q e (environment_of scope frame))
       returned_at k le None None h = sim_pure (slots_view table) (completion.Return value.Undefined)
       returned_at k le (Some u) (Some e) h = sim_given_back (slots_view table) (exprs k le scope frame u e low h)
       returned_at k le None (Some e) h = absurd h
@@ -126,7 +124,7 @@ module _ {H : Type 0} (around : Surroundings) (units : List Code) (table : List 
       -- ---- what makes variables
 
       handler_sim : (k : ℕ) → k ≤ depth → (text : List ℕ) (u : code.Stmt) (t : Stmt) → StmtStandsTo around units table k (with_name (length frame) text false [] ++ scope) (suc (length frame)) u t → (v : Value)
-          → Sim (slots_view table) (slots.handler units p u frame v) (names.handler around outside q text t (environment_of scope frame) v)
+          → Sim (slots_view table) (slots.handler units p u frame v) (names.handler (keeping_free around) outside q text t (environment_of scope frame) v)
       unfolding slots.handler names.handler
       handler_sim k le text u t h v =
           let end : length frame + zero ≡ length frame = omega arith in
@@ -134,12 +132,12 @@ module _ {H : Type 0} (around : Surroundings) (units : List Code) (table : List 
           inside k le (with_name (length frame) text false [] ++ scope) inner u t b (subst (λ (m : ℕ). StmtStandsTo around units table k (with_name (length frame) text false [] ++ scope) m u t) (sym n) h))
 
       block_sim : (k : ℕ) → k ≤ depth → (n : ℕ) (us : List code.Stmt) (ts : List Stmt) → n ≡ length (lexicals ts) → AllStand (StmtStandsTo around units table k (block_scope around units table (ExprStandsTo around units table k) scope (length frame) ts) (length frame + n)) us ts
-          → Sim (slots_view table) (slots.block units p n us frame) (names.block around outside q ts (environment_of scope frame))
+          → Sim (slots_view table) (slots.block units p n us frame) (names.block (keeping_free around) outside q ts (environment_of scope frame))
       unfolding slots.block names.block
       block_sim k le n us ts e h =
           let inner_scope = block_scope around units table (ExprStandsTo around units table k) scope (length frame) ts in
           let f : Frame → Eval H Completion = λ inner. slots.stmts units p us inner in
-          let g : Environment → Eval (Named H) Completion = λ env. names.stmts around outside q ts env in
+          let g : Environment → Eval (Named H) Completion = λ env. names.stmts (keeping_free around) outside q ts env in
           let long : length frame ≡ length frame + zero = omega arith in
           subst (λ (m : ℕ). Sim (slots_view table) (λ s. and_then (on_state (grown m None frame) s) f) (λ s. and_then (lexical_variables (lexicals ts) (environment_of scope frame) s) g)) (sym e)
           (lexicals_then table (lexicals ts) [] scope frame (length frame) f g long low (λ inner grow l b.
@@ -149,10 +147,10 @@ module _ {H : Type 0} (around : Surroundings) (units : List Code) (table : List 
       -- ---- the cases
 
       pub case_stmt : (k : ℕ) → k ≤ depth → (u : StmtLayer) (t : StmtKindLayer Tree) → StmtStands around units table (ExprStandsTo around units table k) (StmtStandsTo around units table k) scope (length frame) u t
-          → Sim (slots_view table) (slots.stmt_at units p u frame) (names.stmt_at around outside q t (environment_of scope frame))
+          → Sim (slots_view table) (slots.stmt_at units p u frame) (names.stmt_at (keeping_free around) outside q t (environment_of scope frame))
       case_stmt k le (Stmt-F.Expr u) (StmtKind-F.StmtKind::Expr e) h = sim_expression (slots_view table) (exprs k le scope frame u e low h)
       case_stmt k le (Stmt-F.Var kind ds) (StmtKind-F.StmtKind::Var other es) h =
-          subst (λ (z : VarKind). Sim (slots_view table) (forms.finished (slots.declarations units p kind ds frame)) (forms.finished (names.declarations around outside q z es (environment_of scope frame)))) h.0 (sim_finished (slots_view table) (declarations_sim k le kind ds es h.1))
+          subst (λ (z : VarKind). Sim (slots_view table) (forms.finished (slots.declarations units p kind ds frame)) (forms.finished (names.declarations (keeping_free around) outside q z es (environment_of scope frame)))) h.0 (sim_finished (slots_view table) (declarations_sim k le kind ds es h.1))
       case_stmt k le Stmt-F.Empty (StmtKind-F.Function f) h = sim_pure (slots_view table) completion.Normal
       case_stmt k le Stmt-F.Empty (StmtKind-F.Service f) h = sim_pure (slots_view table) completion.Normal
       case_stmt k le Stmt-F.Empty StmtKind-F.Empty h = sim_pure (slots_view table) completion.Normal

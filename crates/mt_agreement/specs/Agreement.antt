@@ -1,24 +1,24 @@
 -- What it means that code on slots is evaluated as the syntax that it stands for.
-use Rattle.std.specs.Prelude.{◌≡◌, ℕ, List, [], Option, None}
+use Rattle.std.specs.Prelude.{◌≡◌, ◌≢◌, ℕ, List, [], None, Result, Ok, Err}
 use Rattle.mt_agreement.specs.Scopes.{environment_of, body_entry}
-use Rattle.mt_agreement.specs.States.{Numbered, view, viewed, IsGood, kept_free}
+use Rattle.mt_agreement.specs.States.{Numbered, keeping_free, trim, trimmed}
+use Rattle.mt_agreement.specs.Stores.{StateStands}
 use Rattle.mt_evaluation.specs.Entering.{Named}
-use Rattle.mt_evaluation.specs.Evaluation.{deepest, most_calls}
-use Rattle.mt_evaluation.specs.Host.{Meaning}
+use Rattle.mt_evaluation.specs.Evaluation.{deepest, most_calls, file, client_code, called}
+use Rattle.mt_evaluation.specs.Host.{Meaning, seen}
 use Rattle.mt_evaluation.specs.Names.{Environment, Surroundings}
 use Rattle.mt_evaluation.specs.Runs.{Ran, gives, leaves, ◌>>=◌, ◌>>◌, pure}
 use Rattle.mt_evaluation.specs.State.{Eval, on_state}
+use Rattle.mt_evaluation.specs.declared.exit.Exit.{Exit}
+use Rattle.mt_evaluation.specs.declared.exit.Exit.TheVariants as exit
 use Rattle.mt_evaluation.specs.declared.state.State.{State}
 use Rattle.mt_slots.specs.Frames.{enter_unit}
 use Rattle.mt_slots.specs.Slots as slots
 use Rattle.mt_slots.specs.declared.function.Function.{Function as Code}
 use Rattle.mt_slots.specs.declared.function.Unit.{Unit as Unit'}
-use Rattle.mt_syntax.specs.declared.tree.Function.{Function}
+use Rattle.mt_syntax.specs.declared.program.Tilde.{Tilde}
 use Rattle.mt_syntax.specs.declared.tree.Stmt.{Stmt}
-
--- a function keeps of its environment the variables of the names that are free in it
-abbrev pub KeepsFree : Surroundings → Type 0
-KeepsFree around = (own : Option (List ℕ)) (f : Function) (environment : Environment) → around.kept own f environment ≡ kept_free around.tildes own f environment
+use Rattle.mt_value.specs.declared.value.Value.{Value}
 
 -- the file on slots, with the environment that its frame gives to the names of its top
 abbrev pub file_on_slots : {H : Type 0} → List Code → Meaning H → Unit' → List Stmt → Eval H Environment
@@ -27,14 +27,45 @@ file_on_slots units host u items = do
   slots.body units (slots.parts units host most_calls deepest) u.body.statements frame
   pure (environment_of (body_entry 0 None [] items) frame)
 
-module _ {H : Type 0} (table : List Numbered) where
-  -- the state that is left knows its functions
-  abbrev pub LeavesGood : {A : Type 0} → Ran (State × H) A → Type 0
-  LeavesGood (gives a s) = IsGood table s.0.store
-  LeavesGood (leaves e s) = IsGood table s.0.store
+-- ---- runs that end alike, in states of which one stands for the other
 
-  -- From each state on slots that knows its functions: by names, what it stands for ends as what the run on slots stands for, and the
-  -- state that is left knows its functions again.
+module _ {H : Type 0} (tildes : List Tilde) (table : List Numbered) where
+  -- a run by names and one on slots
+  abbrev pub EndsAs : {A : Type 0} → Ran (State × Named H) A → Ran (State × H) A → Type 0
+  EndsAs ran (gives a s) = (n : State × Named H) × (ran ≡ gives a n) × StateStands tildes table s n
+  EndsAs ran (leaves e s) = (n : State × Named H) × (ran ≡ leaves e n) × StateStands tildes table s n
+
+  -- a run by names and code that did what is meant, or had no memory
+  abbrev pub EvalsAs : {A : Type 0} → Ran (State × Named H) A → Result A Exit → State × H → Type 0
+  EvalsAs ran (Ok a) new = (n : State × Named H) × (ran ≡ gives a n) × StateStands tildes table new n
+  EvalsAs ran (Err e) new = e ≢ exit.NoMemory → (n : State × Named H) × (ran ≡ leaves e n) × StateStands tildes table new n
+
+  -- from each two states of which one stands for the other
   pub record EvaluatesAs {A : Type 0} (p : Eval H A) (q : Eval (Named H) A) : Type 0 where
-    pub same : (s : State × H) → IsGood table s.0.store → q (view table s) ≡ viewed table (p s)
-    pub good : (s : State × H) → IsGood table s.0.store → LeavesGood (p s)
+    pub ends : (s : State × H) (n : State × Named H) → StateStands tildes table s n → EndsAs (q n) (p s)
+
+-- ---- what a host sees of a run
+
+-- a state by names that has no functions
+abbrev pub without_functions : {H : Type 0} → State × H → State × Named H
+without_functions s = (s.0, record { host = s.1; closures = [] })
+
+module _ {H A : Type 0} where
+  abbrev pub shown : Ran (State × H) A → Ran (State × H) A
+  shown (gives a s) = gives a (record s.0 { store = seen s.0.store }, s.1)
+  shown (leaves e s) = leaves e (record s.0 { store = seen s.0.store }, s.1)
+
+  abbrev pub shown_by_names : Ran (State × Named H) A → Ran (State × H) A
+  shown_by_names (gives a s) = gives a (s.0, s.1.host)
+  shown_by_names (leaves e s) = leaves e (s.0, s.1.host)
+
+-- ---- functions that keep what is free in them, in the place of their whole environments
+
+-- the same ending, host and budget, and the same store but for what functions keep
+abbrev pub SameTrimmed : {H A : Type 0} → List Tilde → Eval (Named H) A → Eval (Named H) A → Type 0
+SameTrimmed {H} tildes p q = (s : State × Named H) → q (trim tildes s) ≡ trimmed tildes (p s)
+
+pub record FreeIsEnough {H : Type 0} (around : Surroundings) (host : Meaning H) : Type 0 where
+  pub file : (items : List Stmt) → SameTrimmed around.tildes (file around host items) (file (keeping_free around) host items)
+  pub client_code : (items : List Stmt) → SameTrimmed around.tildes (client_code around host items) (client_code (keeping_free around) host items)
+  pub called : (f : Value) (arguments : List Value) → SameTrimmed around.tildes (called around host f arguments) (called (keeping_free around) host f arguments)

@@ -4,7 +4,7 @@ use Rattle.mt_agreement.specs.Free.{cut, free_of}
 use Rattle.mt_evaluation.specs.Entering.{Closure, Closures, Named}
 use Rattle.mt_evaluation.specs.Hoisting.{Lexical}
 use Rattle.mt_evaluation.specs.Host.{seen}
-use Rattle.mt_evaluation.specs.Names.{Environment}
+use Rattle.mt_evaluation.specs.Names.{Environment, Surroundings}
 use Rattle.mt_evaluation.specs.Runs.{Ran, gives, leaves}
 use Rattle.mt_evaluation.specs.declared.state.State.{State}
 use Rattle.mt_syntax.specs.declared.program.Tilde.{Tilde}
@@ -65,6 +65,9 @@ module _ (table : List Numbered) where
 
 abbrev pub kept_free : List Tilde → Option (List ℕ) → Function → Environment → Environment
 kept_free tildes own f environment = cut (λ b. b.name) (free_of tildes own f) environment
+
+abbrev pub keeping_free : Surroundings → Surroundings
+keeping_free around = record around { kept = kept_free around.tildes }
 
 abbrev pub trim_closure : List Tilde → Closure → Closure
 trim_closure tildes c = record c { environment = kept_free tildes c.own c.function c.environment }
