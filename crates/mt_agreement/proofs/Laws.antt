@@ -1,22 +1,66 @@
--- The laws, from each good state.
-use Rattle.std.proofs.Common.{◌≡◌, List, refl, ◌∙◌}
-use Rattle.mt_agreement.specs.Agreement.{LeavesGood, EvaluatesAs}
-use Rattle.mt_agreement.specs.States.{Numbered, view, viewed, IsGood}
+-- The laws on whole environments, from those on functions that keep what is free in them.
+use Rattle.std.proofs.Common.{◌≡◌, ◌≢◌, ℕ, List, [], Result, Ok, Err, refl, sym, ap, ◌∙◌, subst}
+use Rattle.mt_agreement.specs.Agreement.{EndsAs, EvalsAs, EvaluatesAs, SameTrimmed, without_functions, shown, shown_by_names}
+use Rattle.mt_agreement.specs.States.{Numbered, view, IsGood, trim, trimmed}
+use Rattle.mt_agreement.specs.Stores.{StateStands}
 use Rattle.mt_agreement.proofs.Sim.{slots_view}
-use Rattle.mt_agreement.proofs.Views.{FitsRan, seen_run, Sim}
+use Rattle.mt_agreement.proofs.Standing.{good_of, shown_of, stands_by}
+use Rattle.mt_agreement.proofs.Views.{FitsRan, Agrees, seen_run, Sim}
 use Rattle.mt_evaluation.specs.Entering.{Named}
-use Rattle.mt_evaluation.specs.Runs.{Ran, gives, leaves}
+use Rattle.mt_evaluation.specs.Host.{seen}
+use Rattle.mt_evaluation.specs.Runs.{Ran, gives, leaves, Evals}
 use Rattle.mt_evaluation.specs.State.{Eval}
+use Rattle.mt_evaluation.specs.declared.exit.Exit.{Exit}
+use Rattle.mt_evaluation.specs.declared.exit.Exit.TheVariants as exit
 use Rattle.mt_evaluation.specs.declared.state.State.{State}
+use Rattle.mt_syntax.specs.declared.program.Tilde.{Tilde}
+use Rattle.mt_value.specs.declared.cell.Cell.{Cell}
 
-module _ {H : Type 0} (table : List Numbered) where
-  good_ran : {A : Type 0} (r : Ran (State × H) A) → FitsRan (view table) (λ s. IsGood table s.0.store) r → LeavesGood table r
-  good_ran (gives a s) h = h
-  good_ran (leaves e s) h = h
+module _ {H : Type 0} (tildes : List Tilde) (table : List Numbered) where
+  -- ---- on an empty store
 
-  view_ran : {A : Type 0} (r : Ran (State × H) A) → seen_run (view table) (λ s. IsGood table s.0.store) r ≡ viewed table r
-  view_ran (gives a s) = refl
-  view_ran (leaves e s) = refl
+  start_by : (t : State) (h : H) (cells : List Cell) → cells ≡ [] → StateStands tildes table (record t { store = cells }, h) (without_functions (record t { store = cells }, h))
+  start_by t h cells e =
+      subst (λ (xs : List Cell). StateStands tildes table (record t { store = xs }, h) (without_functions (record t { store = xs }, h))) (sym e)
+      (record { store = record { cells = refl; functions = tt }; globals = refl; budget = refl; host = refl })
 
-  pub evaluates_as : {A : Type 0} (p : Eval H A) (q : Eval (Named H) A) → Sim (slots_view table) p q → EvaluatesAs table p q
-  evaluates_as p q k = record { same = λ s h. (k.run s h).same ∙ view_ran (p s); good = λ s h. good_ran (p s) (k.run s h).good }
+  pub starts : (s : State × H) → s.0.store ≡ [] → StateStands tildes table s (without_functions s)
+  starts s e = start_by s.0 s.1 s.0.store e
+
+  state_shown : (s : State × H) (n : State × Named H) → StateStands tildes table s n → ◌≡◌ {A = State × H} (n.0, n.1.host) (record s.0 { store = seen s.0.store }, s.1)
+  state_shown s n stands = ap (λ (x : State × Named H). (x.0, x.1.host)) (shown_of tildes table s n stands)
+
+  module _ {A : Type 0} where
+    -- the run by names, by how the one on slots ends
+    ends_at : (r : Ran (State × Named H) A) (t : Ran (State × H) A) → trimmed tildes r ≡ seen_run (view table) (λ s. IsGood table s.0.store) t → FitsRan (view table) (λ s. IsGood table s.0.store) t → EndsAs tildes table r t
+    ends_at (gives b n) (gives a s) e good =
+        let same : b ≡ a = cc in
+        let shows : trim tildes n ≡ view table s = cc in
+        (n, ap (λ x. gives x n) same, stands_by tildes table s n good shows)
+    ends_at (leaves x n) (leaves y s) e good =
+        let same : x ≡ y = cc in
+        let shows : trim tildes n ≡ view table s = cc in
+        (n, ap (λ z. leaves z n) same, stands_by tildes table s n good shows)
+    ends_at (gives b n) (leaves y s) e good = cc
+    ends_at (leaves x n) (gives a s) e good = cc
+
+    -- `q` keeps whole environments and `k` what is free
+    pub evaluates_as : (p : Eval H A) (q k : Eval (Named H) A) → SameTrimmed tildes q k → Sim (slots_view table) p k → EvaluatesAs tildes table p q
+    evaluates_as p q k law sim = record {
+      ends = λ s n stands.
+          let both = sim.run s (good_of tildes table s n stands) in
+          ends_at (q n) (p s) (sym (law n) ∙ ap k (shown_of tildes table s n stands) ∙ both.same) both.good;
+    }
+
+    -- ---- for code that did what is meant on slots
+
+    pub evals_as : (p : Eval H A) (q : Eval (Named H) A) → EvaluatesAs tildes table p q → (s : State × H) (n : State × Named H) → StateStands tildes table s n → (result : Result A Exit) (new : State × H) → Evals (p s) result new → EvalsAs tildes table (q n) result new
+    evals_as p q law s n stands (Ok a) new did = subst (λ (r : Ran (State × H) A). EndsAs tildes table (q n) r) did (law.ends s n stands)
+    evals_as p q law s n stands (Err e) new did = λ other. subst (λ (r : Ran (State × H) A). EndsAs tildes table (q n) r) (did other) (law.ends s n stands)
+
+    shown_at : (r : Ran (State × Named H) A) (t : Ran (State × H) A) → EndsAs tildes table r t → shown_by_names r ≡ shown t
+    shown_at r (gives a s) ends = ap shown_by_names ends.1 ∙ ap (λ (x : State × H). gives a x) (state_shown s ends.0 ends.2)
+    shown_at r (leaves y s) ends = ap shown_by_names ends.1 ∙ ap (λ (x : State × H). leaves y x) (state_shown s ends.0 ends.2)
+
+    pub starts_alike : (p : Eval H A) (q : Eval (Named H) A) → EvaluatesAs tildes table p q → (s : State × H) → s.0.store ≡ [] → shown_by_names (q (without_functions s)) ≡ shown (p s)
+    starts_alike p q law s e = shown_at (q (without_functions s)) (p s) (law.ends s (without_functions s) (starts s e))

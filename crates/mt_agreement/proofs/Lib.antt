@@ -23,4 +23,6 @@ pub mod Bound
 pub mod FreeExpressions
 pub mod FreeStatements
 pub mod FreeLevels
+pub mod Standing
 pub mod Laws
+pub mod Whole
