@@ -4,7 +4,8 @@ use Rattle.std.specs.Prelude.{slice_index_or}
 use Rattle.std.proofs.Math.ListN.{get_or-append}
 use Rattle.std.proofs.Math.Seq.{get_or-append_seam}
 use Rattle.mt_agreement.specs.Scopes.{Scope, environment_of, IsBelow, with_name, with_lexicals}
-use Rattle.mt_agreement.specs.States.{Numbered, view}
+use Rattle.mt_agreement.specs.States.{Numbered}
+use Rattle.mt_agreement.proofs.Shown.{view}
 use Rattle.mt_agreement.proofs.Keeps.{keep_add}
 use Rattle.mt_agreement.proofs.Sim.{slots_view}
 use Rattle.mt_agreement.proofs.Views.{Agrees, Sim, sim_bind, sim_on_state}

@@ -1,12 +1,12 @@
 -- Which names the entry of a body binds, whatever the state is.
-use Rattle.std.proofs.Common.{◌≡◌, ℕ, List, [], ◌∷◌, ◌++◌, map, Option, Some, None, Bool, true, false, cond, ◌||◌, refl, sym, ap, subst}
+use Rattle.std.proofs.Common.{◌≡◌, ℕ, List, [], ◌∷◌, ◌++◌, Option, Some, None, Bool, true, false, cond, ◌||◌, refl, sym, subst}
 use Rattle.std.specs.Prelude.{is_some}
 use Rattle.mt_agreement.specs.Free.{Names, has}
-use Rattle.mt_agreement.proofs.Cuts.{names_in, has_left, has_right, has_here, has_there, has_split, same_name}
+use Rattle.mt_agreement.proofs.Cuts.{names_in, has_left, has_right, has_there, has_split, same_name}
 use Rattle.mt_agreement.proofs.Keeps.{keep_add}
 use Rattle.mt_agreement.proofs.Trims.{trim_view}
 use Rattle.mt_agreement.proofs.Uses.{named}
-use Rattle.mt_agreement.proofs.Views.{Agrees, Sim, sim_pure, sim_bind, sim_if, sim_on_state}
+use Rattle.mt_agreement.proofs.Views.{Agrees, Sim, sim_pure, sim_bind, sim_on_state}
 use Rattle.mt_evaluation.specs.Entering.{Named, new_variable, variable_once, variables_once, parameter_variables, own_variable, lexical_variables, body_scope, function_names, first, rest}
 use Rattle.mt_evaluation.specs.Hoisting.{Lexical, lexicals, variables}
 use Rattle.mt_evaluation.specs.Names.{Binding, Environment, find}
@@ -121,6 +121,7 @@ module _ {H : Type 0} (tildes : List Tilde) where
       same_at : (y : List ℕ) (b : Bool) → is_same y name ≡ b → (b || false) ≡ true → has (names_in scope) name ≡ true → has (names_in scope) y ≡ true
       same_at y true e i h = subst (λ (z : List ℕ). has (names_in scope) z ≡ true) (sym (same_name y name e)) h
       same_at y false e i h = cc
+
       same_one : (y : List ℕ) → has (name ∷ []) y ≡ true → has (names_in scope) name ≡ true → has (names_in scope) y ≡ true
       same_one y i h = same_at y (is_same y name) refl i h
 

@@ -3,9 +3,10 @@ use Rattle.std.proofs.Common.{◌≡◌, ℕ, zero, suc, ◌+◌, List, [], ◌�
 use Rattle.std.proofs.lemmas.List.{append-nil, map-append, length-map}
 use Rattle.std.specs.Prelude.{slice_get}
 use Rattle.mt_agreement.specs.Code.{FunctionStands, captured_slots, lexical_of}
-use Rattle.mt_agreement.specs.Free.{cut, free_of}
+use Rattle.mt_agreement.specs.Free.{free_of}
 use Rattle.mt_agreement.specs.Scopes.{Scope, environment_of, IsBelow}
-use Rattle.mt_agreement.specs.States.{Numbered, zipped, closure_by, closures_in, closures_from, Knows, KnowsFunction, IsGood, kept_free, keeping_free}
+use Rattle.mt_agreement.specs.States.{Numbered, kept_free, keeping_free}
+use Rattle.mt_agreement.proofs.Shown.{zipped, closure_by, closures_in, closures_from, Knows, KnowsFunction, IsGood}
 use Rattle.mt_agreement.proofs.Sim.{slots_view}
 use Rattle.mt_agreement.proofs.Views.{Sim}
 use Rattle.mt_agreement.proofs.Slots.{cut_same, cut_below, captured_same, captured_length}

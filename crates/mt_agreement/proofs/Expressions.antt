@@ -16,7 +16,7 @@ use Rattle.mt_evaluation.specs.Evaluation as names
 use Rattle.mt_evaluation.specs.Expressions as forms
 use Rattle.mt_evaluation.specs.Evaluation.{expr_kind_of, dollars_of, own_name}
 use Rattle.mt_evaluation.specs.Host.{Outside}
-use Rattle.mt_evaluation.specs.Names.{Environment, Surroundings, referent}
+use Rattle.mt_evaluation.specs.Names.{Surroundings, referent}
 use Rattle.mt_evaluation.specs.References.{read_name}
 use Rattle.mt_evaluation.specs.Runs.{gives}
 use Rattle.mt_evaluation.specs.declared.reference.Reference.TheVariants as reference
@@ -37,7 +37,7 @@ use Rattle.mt_syntax.specs.Fold.{Tree, ExprKindLayer, MarkupChildLayer, MarkupVa
 use Rattle.mt_syntax.specs.declared.tree.Binary.{Binary}
 use Rattle.mt_syntax.specs.declared.tree.Expr.{Expr}
 use Rattle.mt_syntax.specs.declared.tree.ExprKind.TheOpen.{ExprKind-F, MarkupChild-F, MarkupValue-F}
-use Rattle.mt_syntax.specs.declared.tree.Function.{Function, out-Function}
+use Rattle.mt_syntax.specs.declared.tree.Function.{out-Function}
 use Rattle.mt_syntax.specs.declared.tree.Markup.{out-Markup}
 use Rattle.mt_syntax.specs.declared.tree.MarkupAttribute.{MarkupAttribute, out-MarkupAttribute}
 use Rattle.mt_syntax.specs.declared.tree.MarkupChild.{MarkupChild, out-MarkupChild}

@@ -1,13 +1,13 @@
 -- Functions that keep what is free in them do what those do that keep their whole environments: bodies, calls and whole jobs.
 use Rattle.std.proofs.Common.{◌≡◌, ℕ, zero, suc, nat_eq, List, [], ◌∷◌, ◌++◌, map, Option, Some, None, Bool, true, false, cond, refl, sym, ap, ◌∙◌, subst}
-use Rattle.std.proofs.lemmas.List.{append-nil, map-append}
-use Rattle.mt_agreement.specs.Agreement.{FreeIsEnough, SameTrimmed}
-use Rattle.mt_agreement.specs.Free.{Names, Used, has, without, finding, free_of, used_by_stmt_kind}
+use Rattle.std.proofs.lemmas.List.{map-append}
+use Rattle.mt_agreement.specs.Agreement.{SameTrimmed}
+use Rattle.mt_agreement.specs.Free.{Names, Used, has, finding, free_of, used_by_stmt_kind}
 use Rattle.mt_agreement.specs.States.{keeping_free, trim, trimmed, trim_closure}
 use Rattle.mt_agreement.proofs.Bound.{Covers, bound_names, own_names, lexicals_make, body_makes, makes_then}
 use Rattle.mt_agreement.proofs.Cuts.{Alike, alike_same, alike_kept, alike_less, alike_left, alike_names, alike_bound, alike_scope, names_in, has_here, has_left, has_right, has_without, name_same, in_neither, clash, false_by}
 use Rattle.mt_agreement.proofs.FreeExpressions.{tilde, referent_same, free_parts, free_from, SameParts, closure_same, expr_same}
-use Rattle.mt_agreement.proofs.FreeStatements.{lexicals_then, body_same, stmt_same}
+use Rattle.mt_agreement.proofs.FreeStatements.{body_same, stmt_same}
 use Rattle.mt_agreement.proofs.Keeps.{keep_spend, keep_throw, keep_declare, keep_declare_global}
 use Rattle.mt_agreement.proofs.Outsides.{SimCalls, applied_sim}
 use Rattle.mt_agreement.proofs.Trims.{trim_view, same_on_host}
@@ -315,9 +315,11 @@ module _ {H : Type 0} (around : Surroundings) (keeps : (own : Option (List ℕ))
   same_trimmed : {A : Type 0} (m n : Eval (Named H) A) → Sim (trim_view around.tildes) m n → SameTrimmed around.tildes m n
   same_trimmed m n k s = (k.run s tt).same ∙ trimmed_run (m s)
 
-  pub free_is_enough : FreeIsEnough around host
-  free_is_enough = record {
-    file = λ items. same_trimmed (names.file around host items) (names.file (keeping_free around) host items) (file_trims items);
-    client_code = λ items. same_trimmed (names.client_code around host items) (names.client_code (keeping_free around) host items) (client_trims items);
-    called = λ f vs. same_trimmed (names.called around host f vs) (names.called (keeping_free around) host f vs) (called_trims f vs);
-  }
+  pub file_same : (items : List Stmt) → SameTrimmed around.tildes (names.file around host items) (names.file (keeping_free around) host items)
+  file_same items = same_trimmed (names.file around host items) (names.file (keeping_free around) host items) (file_trims items)
+
+  pub client_code_same : (items : List Stmt) → SameTrimmed around.tildes (names.client_code around host items) (names.client_code (keeping_free around) host items)
+  client_code_same items = same_trimmed (names.client_code around host items) (names.client_code (keeping_free around) host items) (client_trims items)
+
+  pub called_alike : (f : Value) (vs : List Value) → SameTrimmed around.tildes (names.called around host f vs) (names.called (keeping_free around) host f vs)
+  called_alike f vs = same_trimmed (names.called around host f vs) (names.called (keeping_free around) host f vs) (called_trims f vs)

@@ -1,26 +1,24 @@
 -- A statement does the same in environments that agree on the names that are free in it.
-use Rattle.std.proofs.Common.{◌≡◌, ℕ, List, [], ◌∷◌, ◌++◌, length, map, Option, Some, None, Bool, true, false, refl, sym, ap, ◌∙◌, subst}
+use Rattle.std.proofs.Common.{◌≡◌, ℕ, List, [], ◌∷◌, ◌++◌, length, map, Option, Some, None, true, false, refl, subst}
 use Rattle.mt_agreement.specs.Free.{Names, Used, has, without, none, joined, finding, used_by_stmt_kind, declared_by}
 use Rattle.mt_agreement.specs.States.{keeping_free}
-use Rattle.mt_agreement.proofs.Cuts.{Alike, alike_less, alike_left, alike_right, alike_more, alike_names, alike_without, has_here, has_there, has_left, name_same, false_by, clash}
+use Rattle.mt_agreement.proofs.Cuts.{Alike, alike_left, alike_right, alike_more, alike_names, alike_without, has_here, has_left, name_same, false_by, clash}
 use Rattle.mt_agreement.proofs.Endings.{sim_expression, sim_finished, sim_given_back, sim_thrown, sim_sequence, sim_choice, sim_loop, sim_starting, sim_attempt}
 use Rattle.mt_agreement.proofs.Forms.{AllSim, none as no_parts, one}
 use Rattle.mt_agreement.proofs.FreeExpressions.{tilde, referent_same, SameParts}
 use Rattle.mt_agreement.proofs.Keeps.{keep_declare, keep_write_name}
 use Rattle.mt_agreement.proofs.Trims.{trim_view}
-use Rattle.mt_agreement.proofs.Uses.{named, all_used, value_used, decl_used, stmt_uses, decl_uses, start_uses, here_is}
+use Rattle.mt_agreement.proofs.Uses.{named, all_used, value_used, decl_used, decl_uses, start_uses, here_is}
 use Rattle.mt_agreement.proofs.Views.{Sim, sim_pure, sim_bind, sim_on_state}
 use Rattle.mt_evaluation.specs.Entering.{Named, lexical_variables}
 use Rattle.mt_evaluation.specs.Evaluation as names
-use Rattle.mt_evaluation.specs.Hoisting.{Lexical, lexicals, kind_of, name_of_decl}
+use Rattle.mt_evaluation.specs.Hoisting.{Lexical, lexicals, name_of_decl}
 use Rattle.mt_evaluation.specs.Host.{Outside}
 use Rattle.mt_evaluation.specs.Names.{Binding, Environment, Surroundings, referent}
 use Rattle.mt_evaluation.specs.References.{write_name, declare}
-use Rattle.mt_evaluation.specs.Runs.{and_then, each}
+use Rattle.mt_evaluation.specs.Runs.{and_then}
 use Rattle.mt_evaluation.specs.State.{Eval, on_state, add_cell}
-use Rattle.mt_evaluation.specs.Statements as forms
 use Rattle.mt_evaluation.specs.Statements.{returned}
-use Rattle.mt_evaluation.specs.declared.completion.Completion.{Completion}
 use Rattle.mt_evaluation.specs.declared.completion.Completion.TheVariants as completion
 use Rattle.mt_evaluation.specs.declared.reference.Referent.{Referent}
 use Rattle.mt_syntax.specs.Fold.{Tree, ForStartLayer, StmtKindLayer, on_decl, on_expr, on_for_start, on_stmt}

@@ -1,10 +1,11 @@
 -- What is entered: functions, the file and the code of a tilde, with the functions that they declare.
-use Rattle.std.proofs.Common.{◌≡◌, ℕ, suc, ◌+◌, ◌<◌, ◌≤◌, List, [], ◌∷◌, ◌++◌, length, map, Option, Some, None, Bool, refl, sym, ap, ◌∙◌, subst, arith}
+use Rattle.std.proofs.Common.{◌≡◌, ℕ, suc, ◌+◌, ◌<◌, ◌≤◌, List, [], ◌∷◌, ◌++◌, length, map, Some, None, Bool, refl, sym, ap, ◌∙◌, subst, arith}
 use Rattle.std.proofs.lemmas.List.{append-nil, map-append, length-map}
 use Rattle.std.specs.Prelude.{slice_index_or}
 use Rattle.mt_agreement.specs.Code.{AllStand, NameStands, HoistedStands, CodeStands, FileStands, ClientCodeStands, captured_scope}
 use Rattle.mt_agreement.specs.Scopes.{Scope, environment_of, IsBelow, with_lexicals, own_given, body_entry}
-use Rattle.mt_agreement.specs.States.{Numbered, zipped, keeping_free}
+use Rattle.mt_agreement.specs.States.{Numbered, keeping_free}
+use Rattle.mt_agreement.proofs.Shown.{zipped}
 use Rattle.mt_agreement.proofs.Blocks.{sim_same, regrouped, both_first, wider}
 use Rattle.mt_agreement.proofs.Captures.{sim_capture}
 use Rattle.mt_agreement.proofs.Entries.{lexicals_length, entry_lexicals_then, body_then}

@@ -1,17 +1,17 @@
 -- The laws on whole environments, from those on functions that keep what is free in them.
-use Rattle.std.proofs.Common.{◌≡◌, ◌≢◌, ℕ, List, [], Result, Ok, Err, refl, sym, ap, ◌∙◌, subst}
+use Rattle.std.proofs.Common.{◌≡◌, List, [], Result, Ok, Err, refl, sym, ap, ◌∙◌, subst}
 use Rattle.mt_agreement.specs.Agreement.{EndsAs, EvalsAs, EvaluatesAs, SameTrimmed, without_functions, shown, shown_by_names}
-use Rattle.mt_agreement.specs.States.{Numbered, view, IsGood, trim, trimmed}
+use Rattle.mt_agreement.specs.States.{Numbered, trim, trimmed}
+use Rattle.mt_agreement.proofs.Shown.{view, IsGood}
 use Rattle.mt_agreement.specs.Stores.{StateStands}
 use Rattle.mt_agreement.proofs.Sim.{slots_view}
 use Rattle.mt_agreement.proofs.Standing.{good_of, shown_of, stands_by}
-use Rattle.mt_agreement.proofs.Views.{FitsRan, Agrees, seen_run, Sim}
+use Rattle.mt_agreement.proofs.Views.{FitsRan, seen_run, Sim}
 use Rattle.mt_evaluation.specs.Entering.{Named}
 use Rattle.mt_evaluation.specs.Host.{seen}
 use Rattle.mt_evaluation.specs.Runs.{Ran, gives, leaves, Evals}
 use Rattle.mt_evaluation.specs.State.{Eval}
 use Rattle.mt_evaluation.specs.declared.exit.Exit.{Exit}
-use Rattle.mt_evaluation.specs.declared.exit.Exit.TheVariants as exit
 use Rattle.mt_evaluation.specs.declared.state.State.{State}
 use Rattle.mt_syntax.specs.declared.program.Tilde.{Tilde}
 use Rattle.mt_value.specs.declared.cell.Cell.{Cell}

@@ -6,7 +6,8 @@ use Rattle.std.specs.Prelude.{slice_get}
 use Rattle.mt_agreement.specs.Agreement.{file_on_slots}
 use Rattle.mt_agreement.specs.Code.{AllStand, StmtStandsTo, CodeStands, TableStands, FileStands, ClientCodeStands}
 use Rattle.mt_agreement.specs.Scopes.{Scope, environment_of, IsBelow, body_entry}
-use Rattle.mt_agreement.specs.States.{Numbered, zipped, closure_by, closures_in, closures_from, view, IsGood, Knows, KnowsFunction, keeping_free}
+use Rattle.mt_agreement.specs.States.{Numbered, keeping_free}
+use Rattle.mt_agreement.proofs.Shown.{zipped, closure_by, closures_in, closures_from, view, IsGood, Knows, KnowsFunction}
 use Rattle.mt_agreement.proofs.Expressions.{SimExprs, case_expr}
 use Rattle.mt_agreement.proofs.Functions.{closure_of, scope_of, function_then, file_scope, file_then, client_scope, client_then}
 use Rattle.mt_agreement.proofs.Keeps.{keep_spend, keep_throw}
@@ -33,7 +34,7 @@ use Rattle.mt_slots.specs.declared.expr.Expr as code
 use Rattle.mt_slots.specs.declared.function.Function.{Function as Code}
 use Rattle.mt_slots.specs.declared.function.Unit.{Unit as Unit'}
 use Rattle.mt_slots.specs.declared.stmt.Stmt as code_stmt
-use Rattle.mt_syntax.specs.declared.tree.Function.{Function, out-Function}
+use Rattle.mt_syntax.specs.declared.tree.Function.{out-Function}
 use Rattle.mt_syntax.specs.declared.tree.Stmt.{Stmt}
 use Rattle.mt_value.specs.declared.cell.Cell.{Cell}
 use Rattle.mt_value.specs.declared.cell.Cell.TheVariants as cell

@@ -1,19 +1,17 @@
 -- The names of a tilde hold those of the tildes in its dollars, however tildes nest.
-use Rattle.std.proofs.Common.{◌≡◌, ℕ, zero, suc, ◌+◌, ◌<◌, ◌≤◌, List, [], ◌∷◌, ◌++◌, length, map, Option, Some, None, Bool, true, false, cond, refl, sym, ap, ◌∙◌, arith, inl, inr}
+use Rattle.std.proofs.Common.{◌≡◌, ℕ, zero, suc, ◌+◌, ◌<◌, ◌≤◌, List, [], ◌∷◌, ◌++◌, length, map, Option, Some, None, Bool, true, false, refl, sym, ap, ◌∙◌, arith, inl, inr}
 use Rattle.std.proofs.lemmas.Bool.{cases_lt}
 use Rattle.std.specs.Prelude.{flat_map, slice_get}
 use Rattle.mt_agreement.specs.Free.{Names, has, without, Used, none, joined, finding, listing, used_by_expr_kind, used_by_stmt_kind, used_by_function, using_only, enclosed, declared_by, dollar_names, tilde_names}
-use Rattle.mt_agreement.proofs.Cuts.{has_left, has_right, has_here, has_there, has_without, only_without, has_split}
-use Rattle.mt_evaluation.specs.Evaluation.{own_name}
+use Rattle.mt_agreement.proofs.Cuts.{has_left, has_right, has_without, only_without, has_split}
 use Rattle.mt_evaluation.specs.Hoisting.{names_of}
-use Rattle.mt_syntax.specs.Fold.{Every, ExprKindLayer, StmtKindLayer, DeclLayer, FunctionLayer, on_expr}
-use Rattle.mt_syntax.specs.Gathering.{all_of, or_none}
+use Rattle.mt_syntax.specs.Fold.{ExprKindLayer, StmtKindLayer, DeclLayer, FunctionLayer, on_expr}
+use Rattle.mt_syntax.specs.Gathering.{all_of}
 use Rattle.mt_syntax.specs.Sort.{Sort}
 use Rattle.mt_syntax.specs.Sort as sort
 use Rattle.mt_syntax.specs.declared.program.Tilde.{Tilde}
 use Rattle.mt_syntax.specs.declared.tree.Expr.{Expr}
 use Rattle.mt_syntax.specs.declared.tree.ExprKind.TheOpen.{ExprKind-F, StmtKind-F}
-use Rattle.mt_syntax.specs.declared.tree.Mark.{Mark}
 use Rattle.mt_syntax.specs.declared.tree.VarKind.{VarKind}
 use Rattle.mt_syntax.specs.declared.tree.VarKind.TheVariants as word
 use Rattle.mt_syntax_laws.proofs.Gathered.{Alike, rows, gathered}
@@ -192,16 +190,16 @@ module _ (p q : ℕ → Bool) (up : (i : ℕ) → p i ≡ true → q i ≡ true)
       let right : one_if (q n) ≡ 1 = ap one_if f in
       larger (omega (arith, rest, left, right))
   next_at n true c e f (equal h) = equal (λ i low k. elim (cases_lt i n) [
-      | inl lower ↦ h i lower k
-      | inr above ↦ let same : i ≡ n = omega (arith, low, above) in ap p same ∙ e
-      ])
+    | inl lower ↦ h i lower k
+    | inr above ↦ let same : i ≡ n = omega (arith, low, above) in ap p same ∙ e
+  ])
   next_at n false false e f (equal h) = equal (λ i low k. elim (cases_lt i n) [
-      | inl lower ↦ h i lower k
-      | inr above ↦
-          let same : i ≡ n = omega (arith, low, above) in
-          let clash : true ≡ false = sym k ∙ ap q same ∙ f in
-          cc
-      ])
+    | inl lower ↦ h i lower k
+    | inr above ↦
+        let same : i ≡ n = omega (arith, low, above) in
+        let clash : true ≡ false = sym k ∙ ap q same ∙ f in
+        cc
+  ])
 
   compared : (n : ℕ) → Compared n
   compared zero = equal (λ i low. absurd (omega (arith, low)))
@@ -259,9 +257,9 @@ module _ (tildes : List Tilde) (y : List ℕ) where
 
   settled_below : (depth : ℕ) → ((id : ℕ) → id < length tildes → named (suc depth) id ≡ true → named depth id ≡ true) → Settled depth
   settled_below depth h id k = elim (cases_lt id (length tildes)) [
-      | inl lower ↦ h id lower k
-      | inr above ↦ let clash : true ≡ false = sym k ∙ beyond depth id above in cc
-      ]
+    | inl lower ↦ h id lower k
+    | inr above ↦ let clash : true ≡ false = sym k ∙ beyond depth id above in cc
+  ]
 
   data Grown (depth : ℕ) : Type 0 where
     settled : Settled depth → Grown depth

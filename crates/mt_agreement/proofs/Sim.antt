@@ -2,7 +2,8 @@
 use Rattle.std.proofs.Common.{◌≡◌, List, [], ◌∷◌, ◌++◌, map, min, refl, sym, ap, ap₂, ◌∙◌, subst}
 use Rattle.std.proofs.Common.{append_assoc}
 use Rattle.std.proofs.lemmas.List.{append-nil}
-use Rattle.mt_agreement.specs.States.{Numbered, closures_from, view, IsGood}
+use Rattle.mt_agreement.specs.States.{Numbered}
+use Rattle.mt_agreement.proofs.Shown.{closures_from, view, IsGood}
 use Rattle.mt_agreement.proofs.Keeps.{KeepsAt, seen_state}
 use Rattle.mt_agreement.proofs.Views.{AgreesBy, View, Agrees, Sim}
 use Rattle.mt_agreement.proofs.Stores.{IsPlain, seen_plain, SameFunctions, same_functions, functions_both, functions_added}

@@ -4,7 +4,8 @@ use Rattle.std.specs.Prelude.{slice_get, slice_index_or}
 use Rattle.mt_agreement.specs.Free.{Names, has, without, cut}
 use Rattle.mt_agreement.specs.Scopes.{Slot, Scope, find_slot, environment_of, IsBelow, outer_binding, slot_or_outer, binding_of}
 use Rattle.mt_agreement.specs.Code.{lexical_of}
-use Rattle.mt_agreement.specs.States.{zipped, keeping_free}
+use Rattle.mt_agreement.specs.States.{keeping_free}
+use Rattle.mt_agreement.proofs.Shown.{zipped}
 use Rattle.mt_evaluation.specs.Names.{Binding, Environment, Surroundings, find, referent_outside, builtin_or_global, builtin_of, bound_or_outside, referent}
 use Rattle.mt_evaluation.specs.declared.reference.Referent.TheVariants as refers
 use Rattle.mt_slots.specs.Frames as frames

@@ -1,10 +1,11 @@
 -- A state on slots stands for a state by names where what it shows is this state, its functions trimmed.
-use Rattle.std.proofs.Common.{◌≡◌, ℕ, zero, suc, List, [], ◌∷◌, ◌++◌, length, map, Option, Some, None, refl, sym, ap, ap₂, ◌∙◌, subst, arith}
+use Rattle.std.proofs.Common.{◌≡◌, ℕ, suc, List, [], ◌∷◌, ◌++◌, length, map, Option, Some, None, refl, sym, ap, ap₂, ◌∙◌, subst, arith}
 use Rattle.std.proofs.lemmas.List.{length-map}
 use Rattle.std.specs.Prelude.{slice_get}
 use Rattle.mt_agreement.specs.Code.{AllStand}
-use Rattle.mt_agreement.specs.States.{Numbered, zipped, closure_by, closures_in, closures_from, view, Knows, KnowsFunction, IsGood, kept_free, trim, trim_closure}
-use Rattle.mt_agreement.specs.Stores.{functions_in, functions_from, lexical_in, FunctionCellStands, StoreStands, StateStands}
+use Rattle.mt_agreement.specs.States.{Numbered, kept_free, trim, trim_closure}
+use Rattle.mt_agreement.proofs.Shown.{zipped, closure_by, closures_from, view, KnowsFunction, IsGood}
+use Rattle.mt_agreement.specs.Stores.{functions_from, lexical_in, FunctionCellStands, StateStands}
 use Rattle.mt_evaluation.specs.Entering.{Closure, Closures, Named}
 use Rattle.mt_evaluation.specs.Hoisting.{Lexical}
 use Rattle.mt_evaluation.specs.Host.{seen}
@@ -96,11 +97,13 @@ module _ (tildes : List Tilde) (table : List Numbered) where
       let environment : kept c.1 ≡ zipped n.names f.captured = ap (λ (x : Closure). x.environment) closure in
       let own : c.1.own ≡ n.own = ap (λ (x : Closure). x.own) closure in
       let function : c.1.function ≡ n.function = ap (λ (x : Closure). x.function) closure in
-      let names : map lexical_in (kept c.1) ≡ n.names = ap (λ (env : Environment). map lexical_in env) environment ∙ names_back n.names f.captured same in
-      (sym (ap (λ (x : ℕ × Closure). x.0) e), record {
-        named = is ∙ ap (λ (m : Numbered). Some m) (sym (ap₂ (λ (x : Numbered) (ls : List Lexical). record x { names = ls }) (ap₂ (λ o g. record { own = o; function = g; names = [] }) own function) names));
-        captured = sym (ap (λ (env : Environment). map (λ b. b.address) env) environment ∙ addresses_back n.names f.captured same);
-      })
+      let names : map lexical_in (kept c.1) ≡ n.names = ap (λ (env : Environment). map lexical_in env) environment ∙ names_back n.names f.captured same in (
+        sym (ap (λ (x : ℕ × Closure). x.0) e),
+        record {
+          named = is ∙ ap (λ (m : Numbered). Some m) (sym (ap₂ (λ (x : Numbered) (ls : List Lexical). record x { names = ls }) (ap₂ (λ o g. record { own = o; function = g; names = [] }) own function) names));
+          captured = sym (ap (λ (env : Environment). map (λ b. b.address) env) environment ∙ addresses_back n.names f.captured same);
+        },
+      )
 
   module _ (at : ℕ) (f : FunCell) (store : List Cell) (next : (cs : Closures) → map trimmed_at cs ≡ closures_from table (suc at) store → AllStand Holds (functions_from (suc at) store) cs) where
     function_holds : (o : Option Numbered) (cs : Closures) → slice_get table f.function ≡ o → KnowsFunction table o f → map trimmed_at cs ≡ closure_by table o f at ++ closures_from table (suc at) store → AllStand Holds ((at, f) ∷ functions_from (suc at) store) cs
@@ -146,3 +149,20 @@ module _ (tildes : List Tilde) (table : List Numbered) where
       budget = ap (λ (x : State × Named H). x.0.budget) e;
       host = ap (λ (x : State × Named H). x.1.host) e;
     }
+
+-- ---- further functions
+
+module _ (tildes : List Tilde) (table more : List Numbered) (kept_numbers : (n : ℕ) (e : Numbered) → slice_get table n ≡ Some e → slice_get more n ≡ Some e) where
+  cells_stand : (fs : List (ℕ × FunCell)) (cs : Closures) → AllStand (Holds tildes table) fs cs → AllStand (Holds tildes more) fs cs
+  cells_stand [] [] h = tt
+  cells_stand (f ∷ fs) (c ∷ cs) h = ((h.0.0, record { named = kept_numbers f.1.function (numbered tildes table c.1) h.0.1.named; captured = h.0.1.captured }), cells_stand fs cs h.1)
+  cells_stand [] (c ∷ cs) h = absurd h
+  cells_stand (f ∷ fs) [] h = absurd h
+
+  pub stands_with_more : {H : Type 0} (s : State × H) (n : State × Named H) → StateStands tildes table s n → StateStands tildes more s n
+  stands_with_more s n h = record {
+    store = record { cells = h.store.cells; functions = cells_stand (functions_from 0 s.0.store) n.1.closures h.store.functions };
+    globals = h.globals;
+    budget = h.budget;
+    host = h.host;
+  }

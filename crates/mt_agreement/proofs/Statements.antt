@@ -37,7 +37,6 @@ use Rattle.mt_syntax.specs.declared.tree.Decl.{Decl, out-Decl}
 use Rattle.mt_syntax.specs.declared.tree.Expr.{Expr}
 use Rattle.mt_syntax.specs.declared.tree.ExprKind.TheOpen.{ForStart-F, StmtKind-F}
 use Rattle.mt_syntax.specs.declared.tree.ForStart.{out-ForStart}
-use Rattle.mt_syntax.specs.declared.tree.Function.{Function}
 use Rattle.mt_syntax.specs.declared.tree.Stmt.{Stmt}
 use Rattle.mt_syntax.specs.declared.tree.VarKind.{VarKind}
 use Rattle.mt_syntax.specs.declared.tree.VarKind.TheVariants as word

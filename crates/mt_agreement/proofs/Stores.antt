@@ -2,7 +2,8 @@
 use Rattle.std.proofs.Common.{◌≡◌, ℕ, zero, suc, List, [], ◌∷◌, ◌++◌, length, Option, Some, refl, sym, ap, ◌∙◌}
 use Rattle.std.specs.Prelude.{slice_get, slice_set}
 use Rattle.std.proofs.lemmas.List.{map-set, map-append, length-map}
-use Rattle.mt_agreement.specs.States.{Numbered, closures_in, closures_from, Knows, IsGood}
+use Rattle.mt_agreement.specs.States.{Numbered}
+use Rattle.mt_agreement.proofs.Shown.{closures_in, closures_from, Knows, IsGood}
 use Rattle.mt_evaluation.specs.Host.{seen, seen_cell}
 use Rattle.mt_value.specs.declared.cell.Cell.{Cell}
 use Rattle.mt_value.specs.declared.cell.Cell.TheVariants as cell

@@ -4,15 +4,15 @@ use Rattle.std.specs.Prelude.{flat_map}
 use Rattle.std.proofs.lemmas.List.{map-append}
 use Rattle.mt_agreement.specs.Free.{Names, Used, without, none, joined, finding, listing, used_by_expr_kind, used_by_stmt_kind, used_by_function, declared_by}
 use Rattle.mt_evaluation.specs.Entering.{function_names}
-use Rattle.mt_evaluation.specs.Evaluation.{expr_kind_of, own_name}
+use Rattle.mt_evaluation.specs.Evaluation.{expr_kind_of}
 use Rattle.mt_evaluation.specs.Hoisting.{Lexical, kind_of, lexicals, lexicals_of_kind, lexicals_by_word, functions, functions_of_kind, named_function, variables, variables_by_word, hoisting, names_of, name_of_decl}
-use Rattle.mt_syntax.specs.Fold.{Every, Tree, ExprKindLayer, ForStartLayer, StmtKindLayer, DeclLayer, on_expr, on_expr_kind, on_stmt, on_stmt_kind, on_function, on_decl, on_for_start, on_markup, on_markup_attribute, on_markup_child, on_markup_value, on_prop}
-use Rattle.mt_syntax.specs.Gathering.{all_of, or_none, of_for_start, of_markup_child, of_markup_value}
+use Rattle.mt_syntax.specs.Fold.{Tree, ExprKindLayer, ForStartLayer, StmtKindLayer, on_expr, on_expr_kind, on_stmt, on_stmt_kind, on_function, on_decl, on_for_start, on_markup, on_markup_attribute, on_markup_child, on_markup_value, on_prop}
+use Rattle.mt_syntax.specs.Gathering.{all_of, of_for_start, of_markup_child, of_markup_value}
 use Rattle.mt_syntax.specs.Sort.{Sort}
 use Rattle.mt_syntax.specs.Sort as sort
 use Rattle.mt_syntax.specs.declared.tree.Decl.{Decl, out-Decl, roll-out-Decl}
 use Rattle.mt_syntax.specs.declared.tree.Expr.{Expr, out-Expr, roll-out-Expr}
-use Rattle.mt_syntax.specs.declared.tree.ExprKind.{out-ExprKind, roll-out-ExprKind}
+use Rattle.mt_syntax.specs.declared.tree.ExprKind.{roll-out-ExprKind}
 use Rattle.mt_syntax.specs.declared.tree.ExprKind.TheOpen.{ExprKind-F, ForStart-F, StmtKind-F}
 use Rattle.mt_syntax.specs.declared.tree.ForStart.{ForStart, out-ForStart, roll-out-ForStart}
 use Rattle.mt_syntax.specs.declared.tree.Function.{Function, out-Function, roll-out-Function}
@@ -20,10 +20,10 @@ use Rattle.mt_syntax.specs.declared.tree.Mark.{Mark}
 use Rattle.mt_syntax.specs.declared.tree.Markup.{Markup, out-Markup, roll-out-Markup}
 use Rattle.mt_syntax.specs.declared.tree.MarkupAttribute.{MarkupAttribute, out-MarkupAttribute, roll-out-MarkupAttribute}
 use Rattle.mt_syntax.specs.declared.tree.MarkupChild.{MarkupChild, out-MarkupChild, roll-out-MarkupChild}
-use Rattle.mt_syntax.specs.declared.tree.MarkupValue.{MarkupValue, out-MarkupValue, roll-out-MarkupValue}
+use Rattle.mt_syntax.specs.declared.tree.MarkupValue.{out-MarkupValue, roll-out-MarkupValue}
 use Rattle.mt_syntax.specs.declared.tree.Prop.{Prop, out-Prop, roll-out-Prop}
 use Rattle.mt_syntax.specs.declared.tree.Stmt.{Stmt, out-Stmt, roll-out-Stmt}
-use Rattle.mt_syntax.specs.declared.tree.StmtKind.{out-StmtKind, roll-out-StmtKind}
+use Rattle.mt_syntax.specs.declared.tree.StmtKind.{roll-out-StmtKind}
 use Rattle.mt_syntax.specs.declared.tree.VarKind.{VarKind}
 use Rattle.mt_syntax.specs.declared.tree.VarKind.TheVariants as word
 use Rattle.mt_syntax_laws.proofs.Layers.{map_expr_kind, map_for_start, map_markup_child, map_markup_value, map_stmt_kind, map_decl}

@@ -1,33 +1,36 @@
 -- Each job on slots stands for the job by names, whose functions keep their whole environments.
-use Rattle.std.proofs.Common.{◌≡◌, ℕ, List, Option, ap}
+use Rattle.std.proofs.Common.{List, refl}
 use Rattle.mt_agreement.specs.Agreement.{EvaluatesAs, FreeIsEnough, file_on_slots}
 use Rattle.mt_agreement.specs.Code.{TableStands, FileStands, ClientCodeStands}
-use Rattle.mt_agreement.specs.States.{Numbered, keeping_free}
-use Rattle.mt_agreement.proofs.FreeLevels.{free_is_enough}
+use Rattle.mt_agreement.specs.States.{Numbered, keeping_free, keeping_whole}
+use Rattle.mt_agreement.proofs.FreeLevels.{file_same, client_code_same, called_alike}
 use Rattle.mt_agreement.proofs.Laws.{evaluates_as}
 use Rattle.mt_agreement.proofs.Levels.{file_agrees, client_agrees, called_agrees}
 use Rattle.mt_evaluation.specs.Evaluation.{file, client_code, called}
 use Rattle.mt_evaluation.specs.Host.{Meaning}
-use Rattle.mt_evaluation.specs.Names.{Environment, Surroundings, whole}
+use Rattle.mt_evaluation.specs.Names.{Surroundings}
 use Rattle.mt_slots.specs.Slots as slots
 use Rattle.mt_slots.specs.declared.function.Function.{Function as Code}
 use Rattle.mt_slots.specs.declared.function.Unit.{Unit as Unit'}
-use Rattle.mt_syntax.specs.declared.tree.Function.{Function}
 use Rattle.mt_syntax.specs.declared.tree.Stmt.{Stmt}
 use Rattle.mt_value.specs.declared.value.Value.{Value}
 
-pub free_law : {H : Type 0} (around : Surroundings) → around.kept ≡ whole → (host : Meaning H) → FreeIsEnough around host
-free_law around keeps host = free_is_enough around (λ own f environment. ap (λ (k : Option (List ℕ) → Function → Environment → Environment). k own f environment) keeps) host
+pub free_law : {H : Type 0} (around : Surroundings) (host : Meaning H) → FreeIsEnough around host
+free_law around host = record {
+  file = file_same (keeping_whole around) (λ own f environment. refl) host;
+  client_code = client_code_same (keeping_whole around) (λ own f environment. refl) host;
+  called = called_alike (keeping_whole around) (λ own f environment. refl) host;
+}
 
-module _ {H : Type 0} (around : Surroundings) (units : List Code) (table : List Numbered) (keeps : around.kept ≡ whole) (host : Meaning H) (stands : TableStands around units table) where
-  pub file_law : (u : Unit') (items : List Stmt) → FileStands around units table u items → EvaluatesAs around.tildes table (file_on_slots units host u items) (file around host items)
+module _ {H : Type 0} (around : Surroundings) (units : List Code) (table : List Numbered) (host : Meaning H) (stands : TableStands around units table) where
+  pub file_law : (u : Unit') (items : List Stmt) → FileStands around units table u items → EvaluatesAs around.tildes table (file_on_slots units host u items) (file (keeping_whole around) host items)
   file_law u items code =
-      evaluates_as around.tildes table (file_on_slots units host u items) (file around host items) (file (keeping_free around) host items) ((free_law around keeps host).file items) (file_agrees around units table host stands u items code)
+      evaluates_as around.tildes table (file_on_slots units host u items) (file (keeping_whole around) host items) (file (keeping_free around) host items) ((free_law around host).file items) (file_agrees around units table host stands u items code)
 
-  pub client_law : (u : Unit') (items : List Stmt) → ClientCodeStands around units table u items → EvaluatesAs around.tildes table (slots.unit units host u) (client_code around host items)
+  pub client_law : (u : Unit') (items : List Stmt) → ClientCodeStands around units table u items → EvaluatesAs around.tildes table (slots.unit units host u) (client_code (keeping_whole around) host items)
   client_law u items code =
-      evaluates_as around.tildes table (slots.unit units host u) (client_code around host items) (client_code (keeping_free around) host items) ((free_law around keeps host).client_code items) (client_agrees around units table host stands u items code)
+      evaluates_as around.tildes table (slots.unit units host u) (client_code (keeping_whole around) host items) (client_code (keeping_free around) host items) ((free_law around host).client_code items) (client_agrees around units table host stands u items code)
 
-  pub called_law : (f : Value) (arguments : List Value) → EvaluatesAs around.tildes table (slots.called units host f arguments) (called around host f arguments)
+  pub called_law : (f : Value) (arguments : List Value) → EvaluatesAs around.tildes table (slots.called units host f arguments) (called (keeping_whole around) host f arguments)
   called_law f arguments =
-      evaluates_as around.tildes table (slots.called units host f arguments) (called around host f arguments) (called (keeping_free around) host f arguments) ((free_law around keeps host).called f arguments) (called_agrees around units table host stands f arguments)
+      evaluates_as around.tildes table (slots.called units host f arguments) (called (keeping_whole around) host f arguments) (called (keeping_free around) host f arguments) ((free_law around host).called f arguments) (called_agrees around units table host stands f arguments)

@@ -1,7 +1,7 @@
 -- What it means that code on slots is evaluated as the syntax that it stands for.
-use Rattle.std.specs.Prelude.{◌≡◌, ◌≢◌, ℕ, List, [], None, Result, Ok, Err}
+use Rattle.std.specs.Prelude.{◌≡◌, ◌≢◌, List, [], None, Result, Ok, Err}
 use Rattle.mt_agreement.specs.Scopes.{environment_of, body_entry}
-use Rattle.mt_agreement.specs.States.{Numbered, keeping_free, trim, trimmed}
+use Rattle.mt_agreement.specs.States.{Numbered, keeping_free, keeping_whole, trim, trimmed}
 use Rattle.mt_agreement.specs.Stores.{StateStands}
 use Rattle.mt_evaluation.specs.Entering.{Named}
 use Rattle.mt_evaluation.specs.Evaluation.{deepest, most_calls, file, client_code, called}
@@ -66,6 +66,6 @@ abbrev pub SameTrimmed : {H A : Type 0} → List Tilde → Eval (Named H) A → 
 SameTrimmed {H} tildes p q = (s : State × Named H) → q (trim tildes s) ≡ trimmed tildes (p s)
 
 pub record FreeIsEnough {H : Type 0} (around : Surroundings) (host : Meaning H) : Type 0 where
-  pub file : (items : List Stmt) → SameTrimmed around.tildes (file around host items) (file (keeping_free around) host items)
-  pub client_code : (items : List Stmt) → SameTrimmed around.tildes (client_code around host items) (client_code (keeping_free around) host items)
-  pub called : (f : Value) (arguments : List Value) → SameTrimmed around.tildes (called around host f arguments) (called (keeping_free around) host f arguments)
+  pub file : (items : List Stmt) → SameTrimmed around.tildes (file (keeping_whole around) host items) (file (keeping_free around) host items)
+  pub client_code : (items : List Stmt) → SameTrimmed around.tildes (client_code (keeping_whole around) host items) (client_code (keeping_free around) host items)
+  pub called : (f : Value) (arguments : List Value) → SameTrimmed around.tildes (called (keeping_whole around) host f arguments) (called (keeping_free around) host f arguments)

@@ -8,16 +8,21 @@
 //! stand on this crate.
 #![tactic(auto)]
 
-ghost use Rattle.std.specs.Prelude.{◌≡◌, ℕ, List, []};
+ghost use Rattle.std.specs.Prelude.{◌≡◌, ℕ, List, [], Option, Some, slice_get, true};
 ghost use Rattle.mt_agreement.specs.Agreement.{EvaluatesAs, FreeIsEnough, file_on_slots, shown, shown_by_names, without_functions};
 ghost use Rattle.mt_agreement.specs.Code.{TableStands, FileStands, ClientCodeStands};
-ghost use Rattle.mt_agreement.specs.States.{Numbered};
+ghost use Rattle.mt_agreement.specs.Free.{has, free_of};
+ghost use Rattle.mt_agreement.specs.States.{Numbered, kept_free, keeping_whole};
+ghost use Rattle.mt_agreement.specs.Stores.{StateStands};
 ghost use Rattle.mt_evaluation.specs.Evaluation.{file, client_code, called};
-ghost use Rattle.mt_evaluation.specs.Names.{Surroundings, whole};
+ghost use Rattle.mt_evaluation.specs.Names.{Environment, Surroundings, find};
 ghost use Rattle.mt_evaluation.specs.declared.state.State.{State};
 ghost use Rattle.mt_slots.specs.Slots as slots;
 ghost use Rattle.mt_slots.specs.declared.function.Function.{Function};
 ghost use Rattle.mt_slots.specs.declared.function.Unit.{Unit as Unit'};
+ghost use Rattle.mt_evaluation.specs.Entering.{Named};
+ghost use Rattle.mt_syntax.specs.declared.program.Tilde.{Tilde};
+ghost use Rattle.mt_syntax.specs.declared.tree.Function.{Function as Function'};
 ghost use Rattle.mt_syntax.specs.declared.tree.Stmt.{Stmt};
 ghost use Rattle.mt_value.specs.declared.value.Value.{Value};
 
@@ -26,27 +31,37 @@ use mt_evaluation::Host;
 /// The top of a file on slots is evaluated as the file, for every host: the same ending, with the environment that the services have,
 /// and a state that stands for the definition's.
 pub fn file_agrees<H: Host>()
-    ensures { (around : Surroundings) (units : List Function) (table : List Numbered) → around.kept ≡ whole → TableStands around units table → (u : Unit') (items : List Stmt) → FileStands around units table u items → EvaluatesAs around.tildes table (file_on_slots units H.meaning u items) (file around H.meaning items) }
+    ensures { (around : Surroundings) (units : List Function) (table : List Numbered) → TableStands around units table → (u : Unit') (items : List Stmt) → FileStands around units table u items → EvaluatesAs around.tildes table (file_on_slots units H.meaning u items) (file (keeping_whole around) H.meaning items) }
 {}
 
 /// On an empty store a file on slots and the file end alike, with the same host, globals and budget, and with stores that a host sees as
 /// the same.
 pub fn file_starts_alike<H: Host>()
-    ensures { (around : Surroundings) (units : List Function) (table : List Numbered) → around.kept ≡ whole → TableStands around units table → (u : Unit') (items : List Stmt) → FileStands around units table u items → (s : State × H) → s.0.store ≡ [] → shown_by_names (file around H.meaning items (without_functions s)) ≡ shown (file_on_slots units H.meaning u items s) }
+    ensures { (around : Surroundings) (units : List Function) (table : List Numbered) → TableStands around units table → (u : Unit') (items : List Stmt) → FileStands around units table u items → (s : State × H) → s.0.store ≡ [] → shown_by_names (file (keeping_whole around) H.meaning items (without_functions s)) ≡ shown (file_on_slots units H.meaning u items s) }
 {}
 
 /// The code of a tilde on slots is evaluated as the code, for every host.
 pub fn client_code_agrees<H: Host>()
-    ensures { (around : Surroundings) (units : List Function) (table : List Numbered) → around.kept ≡ whole → TableStands around units table → (u : Unit') (items : List Stmt) → ClientCodeStands around units table u items → EvaluatesAs around.tildes table (slots.unit units H.meaning u) (client_code around H.meaning items) }
+    ensures { (around : Surroundings) (units : List Function) (table : List Numbered) → TableStands around units table → (u : Unit') (items : List Stmt) → ClientCodeStands around units table u items → EvaluatesAs around.tildes table (slots.unit units H.meaning u) (client_code (keeping_whole around) H.meaning items) }
 {}
 
 /// A call that begins a job does on slots what it does by names, for every host and every value that is called.
 pub fn call_agrees<H: Host>()
-    ensures { (around : Surroundings) (units : List Function) (table : List Numbered) → around.kept ≡ whole → TableStands around units table → (f : Value) (arguments : List Value) → EvaluatesAs around.tildes table (slots.called units H.meaning f arguments) (called around H.meaning f arguments) }
+    ensures { (around : Surroundings) (units : List Function) (table : List Numbered) → TableStands around units table → (f : Value) (arguments : List Value) → EvaluatesAs around.tildes table (slots.called units H.meaning f arguments) (called (keeping_whole around) H.meaning f arguments) }
 {}
 
 /// Functions that keep the variables of the names that are free in them do all that they do with their whole environments, for every
 /// host: each job ends alike, with the same host and budget, and with a store that differs in what its functions keep alone.
 pub fn what_is_free_is_enough<H: Host>()
-    ensures { (around : Surroundings) → around.kept ≡ whole → FreeIsEnough around H.meaning }
+    ensures { (around : Surroundings) → FreeIsEnough around H.meaning }
+{}
+
+/// What a function keeps of its environment finds each name that is free in it as the whole environment does.
+pub fn each_free_name_is_kept()
+    ensures { (tildes : List Tilde) (own : Option (List ℕ)) (f : Function') (environment : Environment) (name : List ℕ) → has (free_of tildes own f) name ≡ true → find name (kept_free tildes own f environment) ≡ find name environment }
+{}
+
+/// A state that stands for another goes on to stand for it where further functions get numbers.
+pub fn further_functions_change_nothing<H: Host>()
+    ensures { (tildes : List Tilde) (table more : List Numbered) → ((n : ℕ) (e : Numbered) → slice_get table n ≡ Some e → slice_get more n ≡ Some e) → (s : State × H) (n : State × Named H) → StateStands tildes table s n → StateStands tildes more s n }
 {}

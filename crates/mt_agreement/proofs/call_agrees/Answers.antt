@@ -2,4 +2,4 @@ use Rattle.mt_agreement.proofs.Whole.{called_law}
 use Rattle.mt_agreement.proofs.call_agrees.Goals as goal
 
 pub returns : goal.returns
-returns g c around units table keeps stands f arguments = called_law around units table keeps g.H.Host.meaning stands f arguments
+returns g c around units table stands f arguments = called_law around units table g.H.Host.meaning stands f arguments
