@@ -1,6 +1,6 @@
 -- The laws on whole environments, from those on functions that keep what is free in them.
 use Rattle.std.proofs.Common.{◌≡◌, List, [], Result, Ok, Err, refl, sym, ap, ◌∙◌, subst}
-use Rattle.mt_agreement.specs.Agreement.{EndsAs, EvalsAs, EvaluatesAs, SameTrimmed, without_functions, shown, shown_by_names}
+use Rattle.mt_agreement.specs.Agreement.{EndsAs, EvalsAs, EvaluatesAs, SameTrimmed, without_functions}
 use Rattle.mt_agreement.specs.States.{Numbered, trim, trimmed}
 use Rattle.mt_agreement.proofs.Shown.{view, IsGood}
 use Rattle.mt_agreement.specs.Stores.{StateStands}
@@ -27,7 +27,7 @@ module _ {H : Type 0} (tildes : List Tilde) (table : List Numbered) where
   pub starts : (s : State × H) → s.0.store ≡ [] → StateStands tildes table s (without_functions s)
   starts s e = start_by s.0 s.1 s.0.store e
 
-  state_shown : (s : State × H) (n : State × Named H) → StateStands tildes table s n → ◌≡◌ {A = State × H} (n.0, n.1.host) (record s.0 { store = seen s.0.store }, s.1)
+  pub state_shown : (s : State × H) (n : State × Named H) → StateStands tildes table s n → ◌≡◌ {A = State × H} (n.0, n.1.host) (record s.0 { store = seen s.0.store }, s.1)
   state_shown s n stands = ap (λ (x : State × Named H). (x.0, x.1.host)) (shown_of tildes table s n stands)
 
   module _ {A : Type 0} where
@@ -57,10 +57,3 @@ module _ {H : Type 0} (tildes : List Tilde) (table : List Numbered) where
     pub evals_as : (p : Eval H A) (q : Eval (Named H) A) → EvaluatesAs tildes table p q → (s : State × H) (n : State × Named H) → StateStands tildes table s n → (result : Result A Exit) (new : State × H) → Evals (p s) result new → EvalsAs tildes table (q n) result new
     evals_as p q law s n stands (Ok a) new did = subst (λ (r : Ran (State × H) A). EndsAs tildes table (q n) r) did (law.ends s n stands)
     evals_as p q law s n stands (Err e) new did = λ other. subst (λ (r : Ran (State × H) A). EndsAs tildes table (q n) r) (did other) (law.ends s n stands)
-
-    shown_at : (r : Ran (State × Named H) A) (t : Ran (State × H) A) → EndsAs tildes table r t → shown_by_names r ≡ shown t
-    shown_at r (gives a s) ends = ap shown_by_names ends.1 ∙ ap (λ (x : State × H). gives a x) (state_shown s ends.0 ends.2)
-    shown_at r (leaves y s) ends = ap shown_by_names ends.1 ∙ ap (λ (x : State × H). leaves y x) (state_shown s ends.0 ends.2)
-
-    pub starts_alike : (p : Eval H A) (q : Eval (Named H) A) → EvaluatesAs tildes table p q → (s : State × H) → s.0.store ≡ [] → shown_by_names (q (without_functions s)) ≡ shown (p s)
-    starts_alike p q law s e = shown_at (q (without_functions s)) (p s) (law.ends s (without_functions s) (starts s e))

@@ -26,4 +26,5 @@ pub mod FreeStatements
 pub mod FreeLevels
 pub mod Standing
 pub mod Laws
+pub mod Places
 pub mod Whole

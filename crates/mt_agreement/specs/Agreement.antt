@@ -1,5 +1,5 @@
 -- What it means that code on slots is evaluated as the syntax that it stands for.
-use Rattle.std.specs.Prelude.{◌≡◌, ◌≢◌, List, [], None, Result, Ok, Err}
+use Rattle.std.specs.Prelude.{◌≡◌, ◌≢◌, List, [], map, None, Result, Ok, Err}
 use Rattle.mt_agreement.specs.Scopes.{environment_of, body_entry}
 use Rattle.mt_agreement.specs.States.{Numbered, keeping_free, keeping_whole, trim, trimmed}
 use Rattle.mt_agreement.specs.Stores.{StateStands}
@@ -44,11 +44,27 @@ module _ {H : Type 0} (tildes : List Tilde) (table : List Numbered) where
   pub record EvaluatesAs {A : Type 0} (p : Eval H A) (q : Eval (Named H) A) : Type 0 where
     pub ends : (s : State × H) (n : State × Named H) → StateStands tildes table s n → EndsAs (q n) (p s)
 
--- ---- what a host sees of a run
+-- ---- a file that begins on an empty store
 
 -- a state by names that has no functions
 abbrev pub without_functions : {H : Type 0} → State × H → State × Named H
 without_functions s = (s.0, record { host = s.1; closures = [] })
+
+-- the environment of the top, in which the cell of each name stands at the place that is its slot
+abbrev pub start_environment : List Stmt → Environment
+start_environment items = map (λ s. record { name = s.name; address = s.slot; constant = s.constant }) (body_entry 0 None [] items)
+
+-- a run of the file by names, and one of its unit on slots
+abbrev pub StartsAs : {H : Type 0} → List Tilde → List Numbered → List Stmt → Ran (State × Named H) Environment → Ran (State × H) Value → Type 0
+StartsAs {H} tildes table items ran (gives v s) = (n : State × Named H) × (ran ≡ gives (start_environment items) n) × StateStands tildes table s n
+StartsAs {H} tildes table items ran (leaves e s) = (n : State × Named H) × (ran ≡ leaves e n) × StateStands tildes table s n
+
+-- ---- what a host sees of a run
+
+-- a run, but for the value that it gives
+abbrev pub aside : {S A : Type 0} → Ran S A → Ran S (Unit {0})
+aside (gives a s) = gives tt s
+aside (leaves e s) = leaves e s
 
 module _ {H A : Type 0} where
   abbrev pub shown : Ran (State × H) A → Ran (State × H) A

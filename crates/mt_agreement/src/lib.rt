@@ -9,18 +9,18 @@
 #![tactic(auto)]
 
 ghost use Rattle.std.specs.Prelude.{◌≡◌, ℕ, List, [], Option, Some, slice_get, true};
-ghost use Rattle.mt_agreement.specs.Agreement.{EvaluatesAs, FreeIsEnough, file_on_slots, shown, shown_by_names, without_functions};
+ghost use Rattle.mt_agreement.specs.Agreement.{EvaluatesAs, FreeIsEnough, StartsAs, aside, file_on_slots, shown, shown_by_names, without_functions};
 ghost use Rattle.mt_agreement.specs.Code.{TableStands, FileStands, ClientCodeStands};
 ghost use Rattle.mt_agreement.specs.Free.{has, free_of};
 ghost use Rattle.mt_agreement.specs.States.{Numbered, kept_free, keeping_whole};
 ghost use Rattle.mt_agreement.specs.Stores.{StateStands};
+ghost use Rattle.mt_evaluation.specs.Entering.{Named};
 ghost use Rattle.mt_evaluation.specs.Evaluation.{file, client_code, called};
 ghost use Rattle.mt_evaluation.specs.Names.{Environment, Surroundings, find};
 ghost use Rattle.mt_evaluation.specs.declared.state.State.{State};
 ghost use Rattle.mt_slots.specs.Slots as slots;
 ghost use Rattle.mt_slots.specs.declared.function.Function.{Function};
 ghost use Rattle.mt_slots.specs.declared.function.Unit.{Unit as Unit'};
-ghost use Rattle.mt_evaluation.specs.Entering.{Named};
 ghost use Rattle.mt_syntax.specs.declared.program.Tilde.{Tilde};
 ghost use Rattle.mt_syntax.specs.declared.tree.Function.{Function as Function'};
 ghost use Rattle.mt_syntax.specs.declared.tree.Stmt.{Stmt};
@@ -34,10 +34,16 @@ pub fn file_agrees<H: Host>()
     ensures { (around : Surroundings) (units : List Function) (table : List Numbered) → TableStands around units table → (u : Unit') (items : List Stmt) → FileStands around units table u items → EvaluatesAs around.tildes table (file_on_slots units H.meaning u items) (file (keeping_whole around) H.meaning items) }
 {}
 
-/// On an empty store a file on slots and the file end alike, with the same host, globals and budget, and with stores that a host sees as
-/// the same.
+/// On an empty store the unit of a file on slots ends as the file, in a state that stands for the definition's; where it comes to its
+/// end, the cell of each name of the top stands at the place that is its slot.
+pub fn file_starts<H: Host>()
+    ensures { (around : Surroundings) (units : List Function) (table : List Numbered) → TableStands around units table → (u : Unit') (items : List Stmt) → FileStands around units table u items → (s : State × H) → s.0.store ≡ [] → StartsAs around.tildes table items (file (keeping_whole around) H.meaning items (without_functions s)) (slots.unit units H.meaning u s) }
+{}
+
+/// On an empty store the unit of a file on slots and the file end alike, with the same throw or stop, host, globals and budget, and with
+/// stores that a host sees as the same.
 pub fn file_starts_alike<H: Host>()
-    ensures { (around : Surroundings) (units : List Function) (table : List Numbered) → TableStands around units table → (u : Unit') (items : List Stmt) → FileStands around units table u items → (s : State × H) → s.0.store ≡ [] → shown_by_names (file (keeping_whole around) H.meaning items (without_functions s)) ≡ shown (file_on_slots units H.meaning u items s) }
+    ensures { (around : Surroundings) (units : List Function) (table : List Numbered) → TableStands around units table → (u : Unit') (items : List Stmt) → FileStands around units table u items → (s : State × H) → s.0.store ≡ [] → shown_by_names (aside (file (keeping_whole around) H.meaning items (without_functions s))) ≡ shown (aside (slots.unit units H.meaning u s)) }
 {}
 
 /// The code of a tilde on slots is evaluated as the code, for every host.

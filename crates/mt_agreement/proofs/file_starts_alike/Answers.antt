@@ -1,10 +1,11 @@
-use Rattle.mt_agreement.specs.Agreement.{file_on_slots}
+use Rattle.mt_agreement.specs.Agreement.{without_functions}
 use Rattle.mt_agreement.specs.States.{keeping_whole}
-use Rattle.mt_agreement.proofs.Laws.{starts_alike}
-use Rattle.mt_agreement.proofs.Whole.{file_law}
+use Rattle.mt_agreement.proofs.Places.{shown_alike}
+use Rattle.mt_agreement.proofs.Whole.{start_law}
 use Rattle.mt_evaluation.specs.Evaluation.{file}
+use Rattle.mt_slots.specs.Slots as slots
 use Rattle.mt_agreement.proofs.file_starts_alike.Goals as goal
 
 pub returns : goal.returns
 returns g c around units table stands u items code s empty =
-    starts_alike around.tildes table (file_on_slots units g.H.Host.meaning u items) (file (keeping_whole around) g.H.Host.meaning items) (file_law around units table g.H.Host.meaning stands u items code) s empty
+    shown_alike around.tildes table items (file (keeping_whole around) g.H.Host.meaning items (without_functions s)) (slots.unit units g.H.Host.meaning u s) (start_law around units table g.H.Host.meaning stands u items code s empty)
