@@ -5,10 +5,9 @@ use Rattle.std.proofs.Math.ListN.{get_or-append}
 use Rattle.std.proofs.Math.Seq.{get_or-append_seam}
 use Rattle.mt_agreement.specs.Scopes.{Scope, environment_of, IsBelow, with_name, with_lexicals}
 use Rattle.mt_agreement.specs.States.{Numbered}
-use Rattle.mt_agreement.proofs.Shown.{view}
 use Rattle.mt_agreement.proofs.Keeps.{keep_add}
 use Rattle.mt_agreement.proofs.Sim.{slots_view}
-use Rattle.mt_agreement.proofs.Views.{Agrees, Sim, sim_bind, sim_on_state}
+use Rattle.mt_agreement.proofs.Views.{Sim, regrouped, sim_as, sim_bind, sim_on_state}
 use Rattle.mt_evaluation.specs.Entering.{Named, new_variable, lexical_variables}
 use Rattle.mt_evaluation.specs.Hoisting.{Lexical}
 use Rattle.mt_evaluation.specs.Names.{Environment}
@@ -55,26 +54,16 @@ grows_both a b c g h =
     record { kept = λ scope low. h.kept scope (wider scope (length a) (length b) first low) ∙ g.kept scope low; longer = omega (arith, first, second) }
 
 module _ {H : Type 0} (table : List Numbered) where
-  -- evaluations that do the same in each state
-  pub sim_same : {A : Type 0} (m m' : Eval H A) (n n' : Eval (Named H) A) → ((s : State × H) → m s ≡ m' s) → ((s : State × Named H) → n s ≡ n' s) → Sim (slots_view table) m' n' → Sim (slots_view table) m n
-  sim_same m m' n n' e f k = record {
-    run = λ s good. subst (λ z. Agrees (slots_view table) z (n (view table s))) (sym (e s)) (subst (λ z. Agrees (slots_view table) (m' s) z) (sym (f (view table s))) (k.run s good));
-  }
-
   pub state_first : {A B C : Type 0} (r : Ran State A) (host : H) (f : A → Run State B) (g : B → Eval H C) → and_then (beside host (and_then r f)) g ≡ and_then (beside host r) (λ a s. and_then (on_state (f a) s) g)
   state_first (gives a s) host f g = refl
   state_first (leaves e s) host f g = refl
-
-  pub regrouped : {A B C : Type 0} (r : Ran (State × Named H) A) (f : A → Eval (Named H) B) (g : B → Eval (Named H) C) → and_then (and_then r f) g ≡ and_then r (λ a s. and_then (f a s) g)
-  regrouped (gives a s) f g = refl
-  regrouped (leaves e s) f g = refl
 
   -- the first of several steps apart, on both sides
   pub both_first : {A B C D E : Type 0} (m : Run State A) (h : A → Run State B) (f : B → Eval H C) (n : Eval (Named H) D) (k : D → Eval (Named H) E) (g : E → Eval (Named H) C)
       → Sim (slots_view table) (λ s. and_then (on_state m s) (λ a s. and_then (on_state (h a) s) f)) (λ s. and_then (n s) (λ d s. and_then (k d s) g))
       → Sim (slots_view table) (λ s. and_then (on_state (λ t. and_then (m t) h) s) f) (λ s. and_then (and_then (n s) k) g)
   both_first m h f n k g sim =
-      sim_same (λ s. and_then (on_state (λ t. and_then (m t) h) s) f) (λ s. and_then (on_state m s) (λ a s. and_then (on_state (h a) s) f))
+      sim_as (slots_view table) (λ s. and_then (on_state (λ t. and_then (m t) h) s) f) (λ s. and_then (on_state m s) (λ a s. and_then (on_state (h a) s) f))
       (λ s. and_then (and_then (n s) k) g) (λ s. and_then (n s) (λ d s. and_then (k d s) g))
       (λ s. state_first (m s.0) s.1 h f) (λ s. regrouped (n s) k g) sim
 
@@ -87,7 +76,7 @@ module _ {H : Type 0} (table : List Numbered) where
   one_then content name constant slot scope frame f g end low h =
       let c = cell.Variable content in
       let env = environment_of scope frame in
-      sim_same (λ s. and_then (on_state (add_cell c) s) (λ at. f (frame ++ at ∷ []))) (λ s. and_then (on_state (add_cell c) s) (λ at. f (frame ++ at ∷ [])))
+      sim_as (slots_view table) (λ s. and_then (on_state (add_cell c) s) (λ at. f (frame ++ at ∷ []))) (λ s. and_then (on_state (add_cell c) s) (λ at. f (frame ++ at ∷ [])))
       (λ s. and_then (new_variable name constant content env s) g) (λ s. and_then (on_state (add_cell c) s) (λ at. g (record { name = name; address = at; constant = constant } ∷ env)))
       (λ s. refl) (λ s. regrouped (on_state (add_cell c) s) (λ at s. gives (record { name = name; address = at; constant = constant } ∷ env) s) g)
       (sim_bind (slots_view table) (sim_on_state (slots_view table) (keep_add table c tt)) (λ at.
@@ -103,7 +92,7 @@ module _ {H : Type 0} (table : List Numbered) where
       → Sim (slots_view table) (f inner) (g (environment_of (record { name = name; slot = slot; constant = constant } ∷ scope) inner)))
       → Sim (slots_view table) (λ s. and_then (on_state (grown (suc zero) content frame) s) f) (λ s. and_then (new_variable name constant content (environment_of scope frame) s) g)
   alone_then content name constant slot scope frame f g end low h =
-      sim_same (λ s. and_then (on_state (grown (suc zero) content frame) s) f) (λ s. and_then (on_state (add_cell (cell.Variable content)) s) (λ at. f (frame ++ at ∷ [])))
+      sim_as (slots_view table) (λ s. and_then (on_state (grown (suc zero) content frame) s) f) (λ s. and_then (on_state (add_cell (cell.Variable content)) s) (λ at. f (frame ++ at ∷ [])))
       (λ s. and_then (new_variable name constant content (environment_of scope frame) s) g) (λ s. and_then (new_variable name constant content (environment_of scope frame) s) g)
       (λ s. state_first (add_cell (cell.Variable content) s.0) s.1 (λ at t. gives (frame ++ at ∷ []) t) f) (λ s. refl) (one_then content name constant slot scope frame f g end low h)
 

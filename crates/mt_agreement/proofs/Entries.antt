@@ -5,9 +5,9 @@ use Rattle.std.specs.List.{list_any}
 use Rattle.std.proofs.lemmas.List.{append-nil}
 use Rattle.mt_agreement.specs.Scopes.{Slot, Scope, find_slot, environment_of, IsBelow, with_name, with_names, with_names_once, with_lexicals, with_own_name, has_own, own_given, parameter_entry, variable_entry, body_entry}
 use Rattle.mt_agreement.specs.States.{Numbered}
-use Rattle.mt_agreement.proofs.Blocks.{Grows, grows_same, grows_both, sim_same, state_first, both_first, alone_then, step_then, lexicals_then}
+use Rattle.mt_agreement.proofs.Blocks.{Grows, grows_same, grows_both, state_first, both_first, alone_then, step_then, lexicals_then}
 use Rattle.mt_agreement.proofs.Sim.{slots_view}
-use Rattle.mt_agreement.proofs.Views.{Sim}
+use Rattle.mt_agreement.proofs.Views.{Sim, sim_as}
 use Rattle.mt_evaluation.specs.Entering.{Named, first, rest, function_names, new_variable, variables_once, parameter_variables, own_variable, lexical_variables, body_scope}
 use Rattle.mt_evaluation.specs.Hoisting.{Lexical, lexicals, variables}
 use Rattle.mt_evaluation.specs.Names.{Binding, Environment, find}
@@ -136,7 +136,7 @@ module _ {H : Type 0} (table : List Numbered) where
       let d = difference (length entry) (length once) (longer_once size names entry) in
       let c : length entry + d.0 ≡ length once = d.1 in
       let e : n ≡ d.0 + length ls = omega (arith, c, count, lexicals_length size ls once) in
-      sim_same table (λ s. and_then (on_state (grown n None frame) s) f) (λ s. and_then (on_state (λ t. and_then (grown d.0 None frame t) (grown (length ls) None)) s) f)
+      sim_as (slots_view table) (λ s. and_then (on_state (grown n None frame) s) f) (λ s. and_then (on_state (λ t. and_then (grown d.0 None frame t) (grown (length ls) None)) s) f)
       (λ s. and_then (and_then (variables_once names None (environment_of entry frame) s) (lexical_variables ls)) g) (λ s. and_then (and_then (variables_once names None (environment_of entry frame) s) (lexical_variables ls)) g)
       (λ s. ap (λ r. and_then (beside s.1 r) f) (grown_split d.0 (length ls) n None frame s.0 e)) (λ s. refl)
       (both_first table (grown d.0 None frame) (grown (length ls) None) f (variables_once names None (environment_of entry frame)) (lexical_variables ls) g
@@ -194,7 +194,7 @@ module _ {H : Type 0} (table : List Numbered) where
       (parameters_then parameters vs e1 named size f2 g2 l1 b1 (λ given grow2 l2 b2.
       both_first table (grown n (Some value.Undefined) given) m3 f (variables_once (variables ts) (Some value.Undefined) (environment_of e2 given)) n3 g
       (once_then (variables ts) (Some value.Undefined) n e2 given size f3 g3 l2 b2 count_variables (λ declared grow3 l3 b3.
-      sim_same table (λ s. and_then (on_state (m3 declared) s) f) (λ s. and_then (on_state (grown m None declared) s) f4) (λ s. and_then (n3 (environment_of e3 declared) s) g) (λ s. and_then (n3 (environment_of e3 declared) s) g)
+      sim_as (slots_view table) (λ s. and_then (on_state (m3 declared) s) f) (λ s. and_then (on_state (grown m None declared) s) f4) (λ s. and_then (n3 (environment_of e3 declared) s) g) (λ s. and_then (n3 (environment_of e3 declared) s) g)
       (λ s. state_first table (grown m None declared s.0) s.1 next f) (λ s. refl)
       (undeclared_then (function_names ts) (lexicals ts) m e3 declared size f4 g l3 b3 count_undeclared (λ inner grow4 l4 b4.
       h inner (grows_both frame named inner grow1 (grows_both named given inner grow2 (grows_both given declared inner grow3 grow4))) l4 b4))))))))

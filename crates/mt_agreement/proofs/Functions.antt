@@ -6,12 +6,12 @@ use Rattle.mt_agreement.specs.Code.{AllStand, NameStands, HoistedStands, CodeSta
 use Rattle.mt_agreement.specs.Scopes.{Scope, environment_of, IsBelow, with_lexicals, own_given, body_entry}
 use Rattle.mt_agreement.specs.States.{Numbered, keeping_free}
 use Rattle.mt_agreement.proofs.Shown.{zipped}
-use Rattle.mt_agreement.proofs.Blocks.{sim_same, regrouped, both_first, wider}
+use Rattle.mt_agreement.proofs.Blocks.{both_first, wider}
 use Rattle.mt_agreement.proofs.Captures.{sim_capture}
 use Rattle.mt_agreement.proofs.Entries.{lexicals_length, entry_lexicals_then, body_then}
 use Rattle.mt_agreement.proofs.Keeps.{keep_declare, keep_write_name, keep_declare_global}
 use Rattle.mt_agreement.proofs.Sim.{slots_view}
-use Rattle.mt_agreement.proofs.Views.{Sim, sim_pure, sim_bind, sim_on_state}
+use Rattle.mt_agreement.proofs.Views.{Sim, sim_pure, sim_bind, sim_on_state, sim_as, regrouped}
 use Rattle.mt_agreement.proofs.Slots.{referent_same}
 use Rattle.mt_evaluation.specs.Entering as names
 use Rattle.mt_evaluation.specs.Entering.{Closure, Named, lexical_variables, body_scope, closure}
@@ -40,7 +40,7 @@ module _ {H : Type 0} (table : List Numbered) where
 
   -- two steps on the state alone
   state_bind : {A B : Type 0} (m : Run State A) (h : A → Run State B) (n : Eval (Named H) B) → Sim (slots_view table) (λ s. and_then (on_state m s) (λ a. on_state (h a))) n → Sim (slots_view table) (on_state (λ t. and_then (m t) h)) n
-  state_bind m h n k = sim_same table (on_state (λ t. and_then (m t) h)) (λ s. and_then (on_state m s) (λ a. on_state (h a))) n n (λ s. beside_bind (m s.0) s.1 h) (λ s. refl) k
+  state_bind m h n k = sim_as (slots_view table) (on_state (λ t. and_then (m t) h)) (λ s. and_then (on_state m s) (λ a. on_state (h a))) n n (λ s. beside_bind (m s.0) s.1 h) (λ s. refl) k
 
   globals_sim : (text : List (List ℕ)) → Sim (slots_view {H = H} table) (on_state (each (map declare_global text))) (each (map (λ name. on_state (declare_global name)) text))
   globals_sim [] = sim_pure (slots_view table) tt
@@ -147,9 +147,9 @@ module _ {H : Type 0} (around : Surroundings) (units : List Code) (table : List 
       let right : Eval (Named H) A = λ s. and_then (names.enter_function (keeping_free around) (closure_of n captured) at vs s) g in
       subst (λ (o : Bool). Sim (slots_view table) (λ s. and_then (on_state (λ t. and_then (with_own o at captured t) (λ named t. and_then (with_parameters code.parameters vs named t) (λ given. frames.enter_body units code.body given))) s) f) right) (sym stands.own)
       (subst (λ (k : ℕ). Sim (slots_view table) (λ s. and_then (on_state (λ t. and_then (with_own (own_given size n.own parameters ts) at captured t) (λ named t. and_then (with_parameters k vs named t) (λ given. frames.enter_body units code.body given))) s) f) right) (sym count)
-      (sim_same table (λ s. and_then (on_state (λ t. and_then (with_own (own_given size n.own parameters ts) at captured t) (λ named t. and_then (with_parameters (length parameters) vs named t) (λ given. frames.enter_body units code.body given))) s) f)
+      (sim_as (slots_view table) (λ s. and_then (on_state (λ t. and_then (with_own (own_given size n.own parameters ts) at captured t) (λ named t. and_then (with_parameters (length parameters) vs named t) (λ given. frames.enter_body units code.body given))) s) f)
       (λ s. and_then (on_state (λ t. and_then (with_own (own_given size n.own parameters ts) at captured t) (λ named t. and_then (with_parameters (length parameters) vs named t) (λ given. frames.enter_body units code.body given))) s) f)
-      right (λ s. and_then (body_scope n.own at parameters vs ts s) (λ scope s. and_then (last scope s) g)) (λ s. refl) (λ s. regrouped table (body_scope n.own at parameters vs ts s) last g)
+      right (λ s. and_then (body_scope n.own at parameters vs ts s) (λ scope s. and_then (last scope s) g)) (λ s. refl) (λ s. regrouped (body_scope n.own at parameters vs ts s) last g)
       (body_then table size n.own parameters ts vs at code.body.variables code.body.undeclared captured next f (λ scope s. and_then (last scope s) g) size_is stands.body.variables stands.body.undeclared (λ inner grow long low.
       let own_low : IsBelow (length captured) (captured_scope around units table 0 n.names) = captured_low around units table 0 n.names (length captured) (omega (arith, same)) in
       let whole_low : IsBelow (length inner) (scope_of around units table n) = both_low (length inner) (entry_of n) (captured_scope around units table 0 n.names) low (wider (captured_scope around units table 0 n.names) (length captured) (length inner) grow.longer own_low) in
@@ -169,8 +169,8 @@ module _ {H : Type 0} (around : Surroundings) (units : List Code) (table : List 
       let right : Eval (Named H) A = λ s. and_then (names.enter_file (keeping_free around) items s) g in
       let entry = body_entry 0 None [] items in
       subst (λ (z : List (List ℕ)). Sim (slots_view table) (λ s. and_then (on_state (λ t. and_then (each (map declare_global z) t) (λ _. frames.enter_body units u.body [])) s) f) right) (sym stands.globals)
-      (sim_same table (λ s. and_then (on_state (frames.enter_body units u.body []) s) f) (λ s. and_then (on_state (frames.enter_body units u.body []) s) f)
-      right (λ s. and_then (body_scope None 0 [] [] items s) (λ scope s. and_then (last scope s) g)) (λ s. refl) (λ s. regrouped table (body_scope None 0 [] [] items s) last g)
+      (sim_as (slots_view table) (λ s. and_then (on_state (frames.enter_body units u.body []) s) f) (λ s. and_then (on_state (frames.enter_body units u.body []) s) f)
+      right (λ s. and_then (body_scope None 0 [] [] items s) (λ scope s. and_then (last scope s) g)) (λ s. refl) (λ s. regrouped (body_scope None 0 [] [] items s) last g)
       (body_then table 0 None [] items [] 0 u.body.variables u.body.undeclared [] next f (λ scope s. and_then (last scope s) g) refl stands.body.variables stands.body.undeclared (λ inner grow long low.
       let all : entry ++ [] ≡ entry = append-nil entry in
       let all_low : IsBelow (length inner) (entry ++ []) = subst (λ (z : Scope). IsBelow (length inner) z) (sym all) low in

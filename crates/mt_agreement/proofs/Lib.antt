@@ -23,6 +23,7 @@ pub mod Uses
 pub mod Bound
 pub mod FreeExpressions
 pub mod FreeStatements
+pub mod FreeBodies
 pub mod FreeLevels
 pub mod Standing
 pub mod Laws

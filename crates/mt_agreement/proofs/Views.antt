@@ -7,6 +7,11 @@ use Rattle.mt_evaluation.specs.State.{Eval, on_state, with_budget, unmetered}
 use Rattle.mt_evaluation.specs.declared.exit.Exit.{Exit}
 use Rattle.mt_evaluation.specs.declared.state.State.{State}
 
+-- steps may be grouped anew
+pub regrouped : {S A B C : Type 0} (r : Ran S A) (f : A → Run S B) (g : B → Run S C) → and_then (and_then r f) g ≡ and_then r (λ a s. and_then (f a s) g)
+regrouped (gives a s) f g = refl
+regrouped (leaves e s) f g = refl
+
 module _ {K L : Type 0} (see : State × K → State × L) (Fits : State × K → Type 0) where
   abbrev pub seen_run : {A : Type 0} → Ran (State × K) A → Ran (State × L) A
   seen_run (gives a s) = gives a (see s)
@@ -37,6 +42,10 @@ module _ {K L : Type 0} (v : View K L) where
   -- from each state that fits
   pub record Sim {A : Type 0} (m : Eval K A) (n : Eval L A) : Type 0 where
     pub run : (s : State × K) → v.Fits s → Agrees (m s) (n (v.see s))
+
+  -- evaluations that do the same in each state
+  pub sim_as : {A : Type 0} (m m' : Eval K A) (n n' : Eval L A) → ((s : State × K) → m s ≡ m' s) → ((s : State × L) → n s ≡ n' s) → Sim m' n' → Sim m n
+  sim_as m m' n n' e f k = record { run = λ s good. subst (λ z. Agrees z (n (v.see s))) (sym (e s)) (subst (λ z. Agrees (m' s) z) (sym (f (v.see s))) (k.run s good)) }
 
   pub sim_pure : {A : Type 0} (a : A) → Sim (λ s. gives a s) (λ s. gives a s)
   sim_pure a = record { run = λ s h. record { same = refl; good = h } }
