@@ -1,9 +1,9 @@
 -- A file that begins on an empty store: the cell of each name of its top stands at the place that is its slot.
-use Rattle.std.proofs.Common.{◌≡◌, ℕ, zero, suc, ◌+◌, ◌<◌, List, [], ◌∷◌, ◌++◌, length, map, Option, Some, None, Bool, true, false, cond, refl, sym, ap, ap₂, ◌∙◌, subst, arith, length-append}
+use Rattle.std.proofs.Common.{◌≡◌, ℕ, zero, suc, ◌+◌, ◌<◌, List, [], ◌∷◌, ◌++◌, length, map, Option, Some, None, Result, Ok, Err, Bool, true, false, cond, refl, sym, ap, ap₂, ◌∙◌, subst, arith, length-append}
 use Rattle.std.specs.List.{range_with_len}
 use Rattle.std.specs.Prelude.{is_some}
 use Rattle.std.proofs.lemmas.List.FromFn.{get_or-range_with_len}
-use Rattle.mt_agreement.specs.Agreement.{EndsAs, StartsAs, EvaluatesAs, aside, file_on_slots, shown, shown_by_names, start_environment, without_functions}
+use Rattle.mt_agreement.specs.Agreement.{EndsAs, StartsAs, StartedAs, EvaluatesAs, aside, file_on_slots, shown, shown_by_names, start_environment, without_functions}
 use Rattle.mt_agreement.specs.Code.{FileStands}
 use Rattle.mt_agreement.specs.Scopes.{Scope, find_slot, environment_of, IsBelow, with_name, with_names_once, with_lexicals, body_entry, variable_entry}
 use Rattle.mt_agreement.specs.States.{Numbered}
@@ -15,8 +15,9 @@ use Rattle.mt_evaluation.specs.Hoisting.{Lexical, lexicals, variables}
 use Rattle.mt_evaluation.specs.Host.{Meaning}
 use Rattle.mt_evaluation.specs.Names.{Environment, Surroundings}
 use Rattle.mt_evaluation.specs.References.{declare_global}
-use Rattle.mt_evaluation.specs.Runs.{Ran, gives, leaves, Run, and_then, each}
+use Rattle.mt_evaluation.specs.Runs.{Ran, gives, leaves, Run, and_then, each, Evals}
 use Rattle.mt_evaluation.specs.State.{Eval, beside, add_cell}
+use Rattle.mt_evaluation.specs.declared.exit.Exit.{Exit}
 use Rattle.mt_evaluation.specs.declared.state.State.{State}
 use Rattle.mt_slots.specs.Frames.{Frame, grown, define_all, enter_body, enter_unit}
 use Rattle.mt_slots.specs.Slots as slots
@@ -145,6 +146,10 @@ module _ (around : Surroundings) (units : List Code) (table : List Numbered) (u 
       by_entry host (q (without_functions s)) (enter_unit units u s.0) s.1 (unit_frame units u s.0 code.globals empty) (law.ends s (without_functions s) (starts around.tildes table s empty))
 
 module _ {H : Type 0} (tildes : List Tilde) (table : List Numbered) (items : List Stmt) where
+  pub started_as : (ran : Ran (State × Named H) Environment) (r : Ran (State × H) Value) → StartsAs tildes table items ran r → (result : Result Value Exit) (new : State × H) → Evals r result new → StartedAs tildes table items ran result new
+  started_as ran r starts (Ok v) new did = subst (λ (x : Ran (State × H) Value). StartsAs tildes table items ran x) did starts
+  started_as ran r starts (Err e) new did = λ other. subst (λ (x : Ran (State × H) Value). StartsAs tildes table items ran x) (did other) starts
+
   pub shown_alike : (ran : Ran (State × Named H) Environment) (r : Ran (State × H) Value) → StartsAs tildes table items ran r → shown_by_names (aside ran) ≡ shown (aside r)
   shown_alike ran (gives v s) starts = ap (λ (r : Ran (State × Named H) Environment). shown_by_names (aside r)) starts.1 ∙ ap (λ (x : State × H). gives tt x) (state_shown tildes table s starts.0 starts.2)
   shown_alike ran (leaves e s) starts = ap (λ (r : Ran (State × Named H) Environment). shown_by_names (aside r)) starts.1 ∙ ap (λ (x : State × H). leaves e x) (state_shown tildes table s starts.0 starts.2)

@@ -59,6 +59,11 @@ abbrev pub StartsAs : {H : Type 0} → List Tilde → List Numbered → List Stm
 StartsAs {H} tildes table items ran (gives v s) = (n : State × Named H) × (ran ≡ gives (start_environment items) n) × StateStands tildes table s n
 StartsAs {H} tildes table items ran (leaves e s) = (n : State × Named H) × (ran ≡ leaves e n) × StateStands tildes table s n
 
+-- the same of code that did what is meant on slots, or had no memory
+abbrev pub StartedAs : {H : Type 0} → List Tilde → List Numbered → List Stmt → Ran (State × Named H) Environment → Result Value Exit → State × H → Type 0
+StartedAs {H} tildes table items ran (Ok v) new = (n : State × Named H) × (ran ≡ gives (start_environment items) n) × StateStands tildes table new n
+StartedAs {H} tildes table items ran (Err e) new = e ≢ exit.NoMemory → (n : State × Named H) × (ran ≡ leaves e n) × StateStands tildes table new n
+
 -- ---- what a host sees of a run
 
 -- a run, but for the value that it gives
