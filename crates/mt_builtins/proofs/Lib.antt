@@ -1,0 +1,6 @@
+pub mod Hosts
+pub mod Lawfulness
+mod Making
+mod Names
+mod Numerals
+mod Units

@@ -1,0 +1,5 @@
+pub mod Builtins
+pub mod Lawful
+pub mod Lines
+pub mod Making
+pub mod Numbers
