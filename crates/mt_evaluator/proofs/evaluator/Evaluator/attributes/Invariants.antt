@@ -1,0 +1,11 @@
+use Rattle.std.proofs.Common.{◌≡◌, length, map}
+use Rattle.mt_evaluation.specs.Runs.{all, all_behind}
+use Rattle.mt_slots.specs.Slots as spec
+use Rattle.mt_slots.specs.Slots.{parts}
+use Rattle.mt_evaluator.proofs.evaluator.Evaluator.attributes.Given as goal
+
+abbrev pub invariant-loop-items : goal.invariant-loop-items
+invariant-loop-items g l = all (map (λ a. spec.attribute l.self.functions.now (parts l.self.functions.now g.H.Host.meaning l.self.calls l.self.depth) a l.frame) l.fn.items) (l.fn.state, l.fn.host) ≡ all_behind l.done (map (λ a. spec.attribute l.self.functions.now (parts l.self.functions.now g.H.Host.meaning l.self.calls l.self.depth) a l.frame) l.items) (l.state, l.host)
+
+abbrev pub decreases-loop-items : goal.decreases-loop-items
+decreases-loop-items g l = length l.items

@@ -1,0 +1,10 @@
+use Rattle.std.proofs.Common.{◌≡◌, length}
+use Rattle.mt_slots.specs.Slots as spec
+use Rattle.mt_slots.specs.Slots.{parts}
+use Rattle.mt_evaluator.proofs.evaluator.Evaluator.sequence.Given as goal
+
+abbrev pub invariant-loop-items : goal.invariant-loop-items
+invariant-loop-items g l = spec.stmts l.self.functions.now (parts l.self.functions.now g.H.Host.meaning l.calls l.depth) l.fn.items l.frame (l.fn.state, l.fn.host) ≡ spec.stmts l.self.functions.now (parts l.self.functions.now g.H.Host.meaning l.calls l.depth) l.items l.frame (l.state, l.host)
+
+abbrev pub decreases-loop-items : goal.decreases-loop-items
+decreases-loop-items g l = length l.items

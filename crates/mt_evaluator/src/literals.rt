@@ -1,0 +1,267 @@
+ghost use Rattle.std.specs.Prelude.{map};
+ghost use Rattle.mt_evaluation.specs.Expressions as forms;
+ghost use Rattle.mt_evaluation.specs.Runs.{Evals, all};
+ghost use Rattle.mt_evaluator.specs.Nests.{Nests, rank};
+ghost use Rattle.mt_slots.specs.Slots as spec;
+ghost use Rattle.mt_slots.specs.Slots.{parts};
+
+use crate::data::{build_cells, spend_nodes};
+use crate::evaluator::Evaluator;
+use mt_evaluation::{Completion, Exit, Host, NamedValue, State};
+use mt_slots::{Attribute, Entry, Expr, Function, Piece, Stmt};
+use mt_steps::{add_cell, literal_properties, spend};
+use mt_tree::{Buffer, Data, Text};
+use mt_value::{Address, Cell, Property, Value};
+use std::alloc::Global;
+
+impl<
+    'a,
+    H: Host,
+    F: Fn(
+        Global,
+        &[Function],
+        usize,
+        usize,
+        &[Address],
+        &mut State,
+        &mut H,
+        &Expr,
+    ) -> Result<Value, Exit>,
+    G: Fn(
+        Global,
+        &[Function],
+        usize,
+        usize,
+        &[Address],
+        &mut State,
+        &mut H,
+        &Stmt,
+    ) -> Result<Completion, Exit>,
+> Evaluator<'a, H, F, G> {
+    /// The values of expressions, from left to right.
+    ///
+    /// # Errors
+    /// As the code says, and `NoMemory`.
+    pub fn exprs(
+        &self,
+        frame: &[Address],
+        state: &mut State,
+        host: &mut H,
+        mut items: &[Expr],
+    ) -> Result<Buffer<Value>, Exit>
+        requires { Nests H.meaning (rank self.now.calls self.now.depth) (F.pre self.now.expr) (F.post self.now.expr) (G.pre self.now.stmt) (G.post self.now.stmt) }
+        ensures { Evals (all (spec.exprs self.now.functions.now (parts self.now.functions.now H.meaning self.now.calls self.now.depth) items.entry.now frame.now) (state.old, host.old)) result (state.new, host.new) }
+    {
+        let mut done = Buffer::new(self.alloc);
+        while let [item, rest @ ..] = items {
+            done.push(self.expr(frame, state, host, item)?)?;
+            items = rest;
+        }
+        Ok(done)
+    }
+
+    #[tactic(auto, unfolding(mt_evaluation::specs::Expressions::entry))]
+    fn entry(
+        &self,
+        frame: &[Address],
+        state: &mut State,
+        host: &mut H,
+        item: &Entry,
+    ) -> Result<Property, Exit>
+        requires { Nests H.meaning (rank self.now.calls self.now.depth) (F.pre self.now.expr) (F.post self.now.expr) (G.pre self.now.stmt) (G.post self.now.stmt) }
+        ensures { Evals (spec.entry self.now.functions.now (parts self.now.functions.now H.meaning self.now.calls self.now.depth) item.now frame.now (state.old, host.old)) result (state.new, host.new) }
+    {
+        let value = self.expr(frame, state, host, &item.value)?;
+        Ok(Property {
+            name: item.name.share()?,
+            value,
+        })
+    }
+
+    fn entries(
+        &self,
+        frame: &[Address],
+        state: &mut State,
+        host: &mut H,
+        mut items: &[Entry],
+    ) -> Result<Buffer<Property>, Exit>
+        requires { Nests H.meaning (rank self.now.calls self.now.depth) (F.pre self.now.expr) (F.post self.now.expr) (G.pre self.now.stmt) (G.post self.now.stmt) }
+        ensures { Evals (all (map (λ q. spec.entry self.now.functions.now (parts self.now.functions.now H.meaning self.now.calls self.now.depth) q frame.now) items.entry.now) (state.old, host.old)) result (state.new, host.new) }
+    {
+        let mut done = Buffer::new(self.alloc);
+        while let [item, rest @ ..] = items {
+            done.push(self.entry(frame, state, host, item)?)?;
+            items = rest;
+        }
+        Ok(done)
+    }
+
+    #[tactic(auto, unfolding(mt_slots::specs::Slots::piece))]
+    fn piece(
+        &self,
+        frame: &[Address],
+        state: &mut State,
+        host: &mut H,
+        item: &Piece,
+    ) -> Result<Value, Exit>
+        requires { Nests H.meaning (rank self.now.calls self.now.depth) (F.pre self.now.expr) (F.post self.now.expr) (G.pre self.now.stmt) (G.post self.now.stmt) }
+        ensures { Evals (spec.piece self.now.functions.now (parts self.now.functions.now H.meaning self.now.calls self.now.depth) item.now frame.now (state.old, host.old)) result (state.new, host.new) }
+    {
+        match item {
+            Piece::Text(text) => Ok(Value::Text(text.share()?)),
+            Piece::Expr(e) => self.expr(frame, state, host, e),
+        }
+    }
+
+    fn pieces(
+        &self,
+        frame: &[Address],
+        state: &mut State,
+        host: &mut H,
+        mut items: &[Piece],
+    ) -> Result<Buffer<Value>, Exit>
+        requires { Nests H.meaning (rank self.now.calls self.now.depth) (F.pre self.now.expr) (F.post self.now.expr) (G.pre self.now.stmt) (G.post self.now.stmt) }
+        ensures { Evals (all (map (λ c. spec.piece self.now.functions.now (parts self.now.functions.now H.meaning self.now.calls self.now.depth) c frame.now) items.entry.now) (state.old, host.old)) result (state.new, host.new) }
+    {
+        let mut done = Buffer::new(self.alloc);
+        while let [item, rest @ ..] = items {
+            done.push(self.piece(frame, state, host, item)?)?;
+            items = rest;
+        }
+        Ok(done)
+    }
+
+    #[tactic(auto, unfolding(mt_evaluation::specs::Expressions::attribute))]
+    fn attribute(
+        &self,
+        frame: &[Address],
+        state: &mut State,
+        host: &mut H,
+        item: &Attribute,
+    ) -> Result<NamedValue, Exit>
+        requires { Nests H.meaning (rank self.now.calls self.now.depth) (F.pre self.now.expr) (F.post self.now.expr) (G.pre self.now.stmt) (G.post self.now.stmt) }
+        ensures { Evals (spec.attribute self.now.functions.now (parts self.now.functions.now H.meaning self.now.calls self.now.depth) item.now frame.now (state.old, host.old)) result (state.new, host.new) }
+    {
+        let value = self.piece(frame, state, host, &item.value)?;
+        Ok(NamedValue {
+            name: item.name.share()?,
+            value,
+        })
+    }
+
+    fn attributes(
+        &self,
+        frame: &[Address],
+        state: &mut State,
+        host: &mut H,
+        mut items: &[Attribute],
+    ) -> Result<Buffer<NamedValue>, Exit>
+        requires { Nests H.meaning (rank self.now.calls self.now.depth) (F.pre self.now.expr) (F.post self.now.expr) (G.pre self.now.stmt) (G.post self.now.stmt) }
+        ensures { Evals (all (map (λ a. spec.attribute self.now.functions.now (parts self.now.functions.now H.meaning self.now.calls self.now.depth) a frame.now) items.entry.now) (state.old, host.old)) result (state.new, host.new) }
+    {
+        let mut done = Buffer::new(self.alloc);
+        while let [item, rest @ ..] = items {
+            done.push(self.attribute(frame, state, host, item)?)?;
+            items = rest;
+        }
+        Ok(done)
+    }
+
+    /// `[a, b]`
+    ///
+    /// # Errors
+    /// As the code says, and `NoMemory`.
+    #[tactic(auto, unfolding(mt_evaluation::specs::Expressions::array))]
+    pub fn array(
+        &self,
+        frame: &[Address],
+        state: &mut State,
+        host: &mut H,
+        items: &[Expr],
+    ) -> Result<Value, Exit>
+        requires { Nests H.meaning (rank self.now.calls self.now.depth) (F.pre self.now.expr) (F.post self.now.expr) (G.pre self.now.stmt) (G.post self.now.stmt) }
+        ensures { Evals (forms.array (spec.exprs self.now.functions.now (parts self.now.functions.now H.meaning self.now.calls self.now.depth) items.now frame.now) (state.old, host.old)) result (state.new, host.new) }
+    {
+        let values = self.exprs(frame, state, host, items)?;
+        spend(state, 0)?;
+        let at = add_cell(state, Cell::Arr(values))?;
+        Ok(Value::Arr(at))
+    }
+
+    /// `{k: a, l: b}`: a repeated key keeps its first place, and takes its last value.
+    ///
+    /// # Errors
+    /// As the code says, and `NoMemory`.
+    #[tactic(auto, unfolding(mt_evaluation::specs::Expressions::object))]
+    pub fn object(
+        &self,
+        frame: &[Address],
+        state: &mut State,
+        host: &mut H,
+        items: &[Entry],
+    ) -> Result<Value, Exit>
+        requires { Nests H.meaning (rank self.now.calls self.now.depth) (F.pre self.now.expr) (F.post self.now.expr) (G.pre self.now.stmt) (G.post self.now.stmt) }
+        ensures { Evals (forms.object (map (λ q. spec.entry self.now.functions.now (parts self.now.functions.now H.meaning self.now.calls self.now.depth) q frame.now) items.now) (state.old, host.old)) result (state.new, host.new) }
+    {
+        let entries = self.entries(frame, state, host, items)?;
+        spend(state, 0)?;
+        let properties = literal_properties(self.alloc, state, entries.items())?;
+        let at = add_cell(state, Cell::Obj(properties))?;
+        Ok(Value::Obj(at))
+    }
+
+    /// A tilde, by its number and the expressions of its dollars.
+    ///
+    /// # Errors
+    /// As the code says, and `NoMemory`.
+    #[tactic(auto, unfolding(mt_evaluation::specs::Expressions::tilde))]
+    pub fn tilde(
+        &self,
+        frame: &[Address],
+        state: &mut State,
+        host: &mut H,
+        id: u32,
+        dollars: &[Expr],
+    ) -> Result<Value, Exit>
+        requires { Nests H.meaning (rank self.now.calls self.now.depth) (F.pre self.now.expr) (F.post self.now.expr) (G.pre self.now.stmt) (G.post self.now.stmt) }
+        ensures { Evals (forms.tilde (parts self.now.functions.now H.meaning self.now.calls self.now.depth).outside id (spec.exprs self.now.functions.now (parts self.now.functions.now H.meaning self.now.calls self.now.depth) dollars.now frame.now) (state.old, host.old)) result (state.new, host.new) }
+    {
+        let values = self.exprs(frame, state, host, dollars)?;
+        spend(state, 0)?;
+        self.staged(state, host, id, values.items())
+    }
+
+    /// An element, by its tag, its attributes and its children.
+    ///
+    /// # Errors
+    /// As the code says, and `NoMemory`.
+    #[tactic(auto, unfolding(mt_evaluation::specs::Expressions::element))]
+    pub fn element(
+        &self,
+        frame: &[Address],
+        state: &mut State,
+        host: &mut H,
+        tag: &Text,
+        attributes: &[Attribute],
+        children: &[Piece],
+    ) -> Result<Value, Exit>
+        requires { Nests H.meaning (rank self.now.calls self.now.depth) (F.pre self.now.expr) (F.post self.now.expr) (G.pre self.now.stmt) (G.post self.now.stmt) }
+        ensures { Evals (forms.element (parts self.now.functions.now H.meaning self.now.calls self.now.depth).outside tag.now (map (λ a. spec.attribute self.now.functions.now (parts self.now.functions.now H.meaning self.now.calls self.now.depth) a frame.now) attributes.now) (map (λ c. spec.piece self.now.functions.now (parts self.now.functions.now H.meaning self.now.calls self.now.depth) c frame.now) children.now) (state.old, host.old)) result (state.new, host.new) }
+    {
+        let named = self.attributes(frame, state, host, attributes)?;
+        let values = self.pieces(frame, state, host, children)?;
+        spend(state, 0)?;
+        self.element_of(state, host, tag, named.items(), values.items())
+    }
+    /// A value that was put in the place of a dollar, with fresh cells for its arrays and objects.
+    ///
+    /// # Errors
+    /// The stop `Budget`, where its nodes are more than what is left, and `NoMemory`.
+    #[tactic(auto, unfolding(mt_evaluation::specs::Expressions::built))]
+    pub fn built(&self, state: &mut State, host: &mut H, datum: &Data) -> Result<Value, Exit>
+        ensures { Evals (forms.built datum.now (state.old, host.old)) result (state.new, host.new) }
+    {
+        spend_nodes(state, datum)?;
+        Ok(build_cells(self.alloc, state, datum)?)
+    }
+}
