@@ -21,8 +21,6 @@ mod parts;
 mod reading;
 mod rose;
 mod rows;
-#[cfg(test)]
-mod tests;
 mod tier;
 mod value;
 mod values;

@@ -29,6 +29,3 @@ pub use check::{declared_twice, declares_once};
 pub use declaration::{Declaration, DeclarationKind, declare};
 pub use names::{declare_all, declared_here, declared_in_file};
 pub use scope::Scope;
-
-#[cfg(test)]
-mod tests;

@@ -29,8 +29,6 @@ mod stack;
 mod statement;
 mod statement_word;
 mod tag;
-#[cfg(test)]
-mod tests;
 mod try_word;
 mod word;
 

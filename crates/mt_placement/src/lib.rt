@@ -13,6 +13,3 @@ mod jumps;
 mod program;
 
 pub use program::{first_misplaced, jumps_fit};
-
-#[cfg(test)]
-mod tests;

@@ -18,6 +18,3 @@ mod site;
 mod sites;
 
 pub use check::misused_name;
-
-#[cfg(test)]
-mod tests;

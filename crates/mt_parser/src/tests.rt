@@ -1,8 +1,7 @@
 use super::*;
-use mt_marks::Mark;
-use mt_nodes::Node;
+use mt_lexer::lex;
 use mt_syntax::{Expr, ExprKind, Stmt, StmtKind};
-use mt_tree::{Place, Row};
+use mt_tree::Row;
 use std::test::Fail;
 
 fn expr_at(items: &Row<Stmt>, at: usize) -> Option<&Expr> {
@@ -34,36 +33,11 @@ fn is_stray(expr: Option<&Expr>) -> bool {
     }
 }
 
-// `~{ ~{}; ${a}; } ~{ ${~{}}; ${a}; } ${a};`, where each expression ends a statement.
 #[test]
 fn tildes_and_dollars_are_numbered_in_text_order(rt: HostRuntime) -> Result<(), Fail> {
-    let p = Place { line: 1, column: 1 };
-    let a = Node::Name(Mark {
-        place: p,
-        text: b"a",
-    });
-    let end = Node::Expression(p);
-    let nodes = [
-        Node::Tilde(p, 0),
-        end,
-        a,
-        Node::Dollar(p),
-        end,
-        Node::Tilde(p, 2),
-        end,
-        Node::Tilde(p, 0),
-        Node::Dollar(p),
-        end,
-        a,
-        Node::Dollar(p),
-        end,
-        Node::Tilde(p, 2),
-        end,
-        a,
-        Node::Dollar(p),
-        end,
-    ];
-    let program = building::made(rt.alloc(), &nodes)?;
+    let alloc = rt.alloc();
+    let tokens = lex(alloc, b"~{ ~{ }; ${a}; }; ~{ ${~{ }}; ${a}; }; ${a};")?;
+    let program = parse(alloc, &tokens)?;
     assert!(rt; is_tilde(expr_at(&program.items, 0), 0));
     assert!(rt; is_tilde(expr_at(&program.items, 1), 2));
     assert!(rt; is_stray(expr_at(&program.items, 2)));
