@@ -72,18 +72,18 @@ module _ (around : Surroundings) (units : List Code) (table : List Numbered) whe
 
   -- ---- the captured variables
 
-  shifted : (k : ℕ) (ls : List Lexical) (at : ℕ) (frame : Frame) → environment_of (captured_scope around units table (suc k) ls) (at ∷ frame) ≡ environment_of (captured_scope around units table k ls) frame
+  shifted : (k : ℕ) (ls : List Lexical) (at : ℕ) (frame : Frame) → environment_of (captured_scope (suc k) ls) (at ∷ frame) ≡ environment_of (captured_scope k ls) frame
   shifted k [] at frame = refl
   shifted k (l ∷ ls) at frame = ap (λ (bs : Environment). record { name = l.name; address = slice_index_or frame k 0; constant = l.constant } ∷ bs) (shifted (suc k) ls at frame)
 
-  captured_environment : (ls : List Lexical) (captured : Frame) → length captured ≡ length ls → environment_of (captured_scope around units table 0 ls) captured ≡ zipped ls captured
+  captured_environment : (ls : List Lexical) (captured : Frame) → length captured ≡ length ls → environment_of (captured_scope 0 ls) captured ≡ zipped ls captured
   captured_environment [] captured e = refl
   captured_environment (l ∷ ls) [] e = absurd (omega (arith, e))
   captured_environment (l ∷ ls) (at ∷ captured) e =
       let rest : length captured ≡ length ls = omega (arith, e) in
       ap (λ (bs : Environment). record { name = l.name; address = at; constant = l.constant } ∷ bs) (shifted 0 ls at captured ∙ captured_environment ls captured rest)
 
-  captured_low : (k : ℕ) (ls : List Lexical) (size : ℕ) → k + length ls ≤ size → IsBelow size (captured_scope around units table k ls)
+  captured_low : (k : ℕ) (ls : List Lexical) (size : ℕ) → k + length ls ≤ size → IsBelow size (captured_scope k ls)
   captured_low k [] size le = tt
   captured_low k (l ∷ ls) size le =
       let here : k < size = omega (arith, le) in
@@ -91,7 +91,7 @@ module _ (around : Surroundings) (units : List Code) (table : List Numbered) whe
       (here, captured_low (suc k) ls size rest)
 
   abbrev pub scope_of : Numbered → Scope
-  scope_of n = entry_of n ++ captured_scope around units table 0 n.names
+  scope_of n = entry_of n ++ captured_scope 0 n.names
 
 module _ {H : Type 0} (around : Surroundings) (units : List Code) (table : List Numbered) where
   -- ---- the functions that a body declares
@@ -151,11 +151,11 @@ module _ {H : Type 0} (around : Surroundings) (units : List Code) (table : List 
       (λ s. and_then (on_state (λ t. and_then (with_own (own_given size n.own parameters ts) at captured t) (λ named t. and_then (with_parameters (length parameters) vs named t) (λ given. frames.enter_body units code.body given))) s) f)
       right (λ s. and_then (body_scope n.own at parameters vs ts s) (λ scope s. and_then (last scope s) g)) (λ s. refl) (λ s. regrouped (body_scope n.own at parameters vs ts s) last g)
       (body_then table size n.own parameters ts vs at code.body.variables code.body.undeclared captured next f (λ scope s. and_then (last scope s) g) size_is stands.body.variables stands.body.undeclared (λ inner grow long low.
-      let own_low : IsBelow (length captured) (captured_scope around units table 0 n.names) = captured_low around units table 0 n.names (length captured) (omega (arith, same)) in
-      let whole_low : IsBelow (length inner) (scope_of around units table n) = both_low (length inner) (entry_of n) (captured_scope around units table 0 n.names) low (wider (captured_scope around units table 0 n.names) (length captured) (length inner) grow.longer own_low) in
+      let own_low : IsBelow (length captured) (captured_scope 0 n.names) = captured_low around units table 0 n.names (length captured) (omega (arith, same)) in
+      let whole_low : IsBelow (length inner) (scope_of around units table n) = both_low (length inner) (entry_of n) (captured_scope 0 n.names) low (wider (captured_scope 0 n.names) (length captured) (length inner) grow.longer own_low) in
       let is : environment_of (scope_of around units table n) inner ≡ environment_of (entry_of n) inner ++ kept =
-      map-append (λ s. record { name = s.name; address = slice_index_or inner s.slot 0; constant = s.constant }) (entry_of n) (captured_scope around units table 0 n.names)
-      ∙ ap (λ (bs : Environment). environment_of (entry_of n) inner ++ bs) (grow.kept (captured_scope around units table 0 n.names) own_low ∙ captured_environment around units table n.names captured same) in
+      map-append (λ s. record { name = s.name; address = slice_index_or inner s.slot 0; constant = s.constant }) (entry_of n) (captured_scope 0 n.names)
+      ∙ ap (λ (bs : Environment). environment_of (entry_of n) inner ++ bs) (grow.kept (captured_scope 0 n.names) own_low ∙ captured_environment around units table n.names captured same) in
       subst (λ (z : Environment). Sim (slots_view table) (λ s. and_then (on_state (next inner) s) f) (λ s. and_then (and_then (names.define_all (keeping_free around) z ts s) (λ _ s. gives z s)) g)) is
       (defined_then (scope_of around units table n) inner whole_low code.body.hoisted (functions ts) f g stands.body.hoisted (h inner (sym long) whole_low))))))
 

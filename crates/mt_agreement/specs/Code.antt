@@ -57,6 +57,11 @@ OptionalStands each _ _ = ⊥
 abbrev pub lexical_of : Slot → Lexical
 lexical_of s = record { name = s.name; constant = s.constant }
 
+-- the captured addresses come first, in the order of the names
+abbrev pub captured_scope : ℕ → List Lexical → Scope
+captured_scope slot [] = []
+captured_scope slot (l ∷ ls) = record { name = l.name; slot = slot; constant = l.constant } ∷ captured_scope (suc slot) ls
+
 module _ (around : Surroundings) (units : List Function) (table : List Numbered) where
   abbrev pub NameStands : Scope → Name → List ℕ → Type 0
   NameStands scope n text = (n.text ≡ text) × (n.binding ≡ binding_of around scope text)
@@ -172,11 +177,6 @@ module _ (around : Surroundings) (units : List Function) (table : List Numbered)
     pub undeclared : length (variable_entry size own parameters ts) + b.undeclared ≡ length (body_entry size own parameters ts)
     pub hoisted : AllStand (HoistedStands (body_entry size own parameters ts ++ captured)) b.hoisted (functions ts)
     pub statements : AllStand (StmtStandsTo deepest (body_entry size own parameters ts ++ captured) (size + length (body_entry size own parameters ts))) b.statements ts
-
-  -- the captured addresses come first, in the order of the names
-  abbrev pub captured_scope : ℕ → List Lexical → Scope
-  captured_scope slot [] = []
-  captured_scope slot (l ∷ ls) = record { name = l.name; slot = slot; constant = l.constant } ∷ captured_scope (suc slot) ls
 
   pub record CodeStands (code : Function) (n : Numbered) : Type 0 where
     pub own : code.own ≡ own_given (length n.names) n.own (names_of (function.out-Function n.function).parameters) (function.out-Function n.function).body
