@@ -1,0 +1,108 @@
+ghost use Rattle.std.specs.Option.{option_copied};
+ghost use Rattle.mt_evaluation.specs.Runs.{Evals};
+ghost use Rattle.mt_evaluator.specs.Nests.{Nests, rank};
+ghost use Rattle.mt_slots.specs.Slots as spec;
+ghost use Rattle.mt_slots.specs.Slots.{parts};
+
+use crate::expressions::Expressions;
+use mt_evaluation::{Completion, Exit, Host, State};
+use mt_slots::{Expr, Function, Stmt};
+use mt_syntax::Binary;
+use mt_value::{Address, Value};
+use std::alloc::Global;
+
+impl<
+    'a,
+    H: Host,
+    F: Fn(
+        Global,
+        &[Function],
+        usize,
+        usize,
+        &[Address],
+        &mut State,
+        &mut H,
+        &Expr,
+    ) -> Result<Value, Exit>,
+    G: Fn(
+        Global,
+        &[Function],
+        usize,
+        usize,
+        &[Address],
+        &mut State,
+        &mut H,
+        &Stmt,
+    ) -> Result<Completion, Exit>,
+> Expressions<'a, H, F, G> {
+    fn assigned_by(
+        &self,
+        frame: &[Address],
+        state: &mut State,
+        host: &mut H,
+        op: Option<Binary>,
+        a: &Expr,
+        e: &Expr,
+    ) -> Result<Value, Exit>
+        requires { Nests H.meaning (rank self.now.level.calls self.now.level.depth) (F.pre self.now.level.expr) (F.post self.now.level.expr) (G.pre self.now.level.stmt) (G.post self.now.level.stmt) }
+        ensures { Evals (spec.assigned_by self.now.level.functions.now (parts self.now.level.functions.now H.meaning self.now.level.calls self.now.level.depth) op a.now e.now frame.now (state.old, host.old)) result (state.new, host.new) }
+    {
+        match op {
+            None => self.level.assignment(frame, state, host, a, e),
+            Some(op) => self.level.update(frame, state, host, op, a, e),
+        }
+    }
+
+    /// The value of an expression.
+    ///
+    /// # Errors
+    /// As the code says, and `NoMemory`.
+    #[tactic(auto, unfolding(mt_slots::specs::Slots::expr))]
+    pub fn node(
+        &self,
+        frame: &[Address],
+        state: &mut State,
+        host: &mut H,
+        e: &Expr,
+    ) -> Result<Value, Exit>
+        requires { Nests H.meaning (rank self.now.level.calls self.now.level.depth) (F.pre self.now.level.expr) (F.post self.now.level.expr) (G.pre self.now.level.stmt) (G.post self.now.level.stmt) }
+        ensures { Evals (spec.expr self.now.level.functions.now (parts self.now.level.functions.now H.meaning self.now.level.calls self.now.level.depth) e.now frame.now (state.old, host.old)) result (state.new, host.new) }
+    {
+        match e {
+            Expr::Name(name) => self.level.name(frame, state, host, name),
+            Expr::Num(n) => self.level.constant(state, host, Value::Num(*n)),
+            Expr::Text(text) => self.level.constant(state, host, Value::Text(text.share()?)),
+            Expr::Bool(b) => self.level.constant(state, host, Value::Bool(*b)),
+            Expr::Null => self.level.constant(state, host, Value::Null),
+            Expr::Undefined => self.level.constant(state, host, Value::Undefined),
+            Expr::Arr(items) => self.level.array(frame, state, host, items.items()),
+            Expr::Obj(entries) => self.level.object(frame, state, host, entries.items()),
+            Expr::Fun(function) => self.level.function(frame, state, host, *function),
+            Expr::Unary(op, a) => self.level.unary(frame, state, host, *op, a.get()),
+            Expr::Step(kind, a) => self.level.step(frame, state, host, *kind, a.get()),
+            Expr::Binary(op, a, b) => self
+                .level
+                .operation(frame, state, host, *op, a.get(), b.get()),
+            Expr::And(a, b) => self.level.conjunction(frame, state, host, a.get(), b.get()),
+            Expr::Or(a, b) => self.level.disjunction(frame, state, host, a.get(), b.get()),
+            Expr::Cond(a, b, c) => self
+                .level
+                .conditional(frame, state, host, a.get(), b.get(), c.get()),
+            Expr::Assign(op, a, b) => self.assigned_by(frame, state, host, *op, a.get(), b.get()),
+            Expr::Index(a, k) => self.level.index(frame, state, host, a.get(), k.get()),
+            Expr::Call(f, arguments) => self.call(frame, state, host, f.get(), arguments.items()),
+            Expr::Tilde(id, dollars) => self.level.tilde(frame, state, host, *id, dollars.items()),
+            Expr::Element(tag, attributes, children) => {
+                self.level.element(
+                    frame,
+                    state,
+                    host,
+                    tag,
+                    attributes.items(),
+                    children.items(),
+                )
+            }
+            Expr::Val(d) => self.level.built(state, host, d),
+        }
+    }
+}
