@@ -1,0 +1,173 @@
+ghost use Rattle.std.specs.Option.{option_copied};
+ghost use Rattle.mt_evaluation.specs.Runs.{Evals};
+ghost use Rattle.mt_evaluation.specs.Statements as statements;
+ghost use Rattle.mt_evaluator.specs.Nests.{Nests, rank};
+ghost use Rattle.mt_slots.specs.Slots as spec;
+ghost use Rattle.mt_slots.specs.Slots.{parts};
+
+use crate::statements::Statements;
+use mt_evaluation::{Completion, Exit, Host, State, Stop};
+use mt_ops::is_truthy;
+use mt_slots::{Expr, ForStart, Function, Stmt};
+use mt_value::{Address, Value};
+use std::alloc::Global;
+
+impl<
+    'a,
+    H: Host,
+    F: Fn(
+        Global,
+        &[Function],
+        usize,
+        usize,
+        &[Address],
+        &mut State,
+        &mut H,
+        &Expr,
+    ) -> Result<Value, Exit>,
+    G: Fn(
+        Global,
+        &[Function],
+        usize,
+        usize,
+        &[Address],
+        &mut State,
+        &mut H,
+        &Stmt,
+    ) -> Result<Completion, Exit>,
+> Statements<'a, H, F, G> {
+    fn tested(
+        &self,
+        frame: &[Address],
+        state: &mut State,
+        host: &mut H,
+        test: Option<&Expr>,
+    ) -> Result<Value, Exit>
+        requires { Nests H.meaning (rank self.now.level.calls self.now.level.depth) (F.pre self.now.level.expr) (F.post self.now.level.expr) (G.pre self.now.level.stmt) (G.post self.now.level.stmt) }
+        ensures { Evals (spec.tested_by self.now.level.functions.now (parts self.now.level.functions.now H.meaning self.now.level.calls self.now.level.depth) (option_copied test.entry) frame.now (state.old, host.old)) result (state.new, host.new) }
+    {
+        match test {
+            None => Ok(Value::Bool(true)),
+            Some(e) => self.level.expr(frame, state, host, e),
+        }
+    }
+
+    fn stepped(
+        &self,
+        frame: &[Address],
+        state: &mut State,
+        host: &mut H,
+        step: Option<&Expr>,
+    ) -> Result<(), Exit>
+        requires { Nests H.meaning (rank self.now.level.calls self.now.level.depth) (F.pre self.now.level.expr) (F.post self.now.level.expr) (G.pre self.now.level.stmt) (G.post self.now.level.stmt) }
+        ensures { Evals (spec.stepped_by self.now.level.functions.now (parts self.now.level.functions.now H.meaning self.now.level.calls self.now.level.depth) (option_copied step.entry) frame.now (state.old, host.old)) result (state.new, host.new) }
+    {
+        match step {
+            None => Ok(()),
+            Some(e) => {
+                let _value = self.level.expr(frame, state, host, e)?;
+                Ok(())
+            }
+        }
+    }
+
+    fn after_body(
+        &self,
+        frame: &[Address],
+        state: &mut State,
+        host: &mut H,
+        step: Option<&Expr>,
+        ending: Completion,
+    ) -> Result<Option<Completion>, Exit>
+        requires { Nests H.meaning (rank self.now.level.calls self.now.level.depth) (F.pre self.now.level.expr) (F.post self.now.level.expr) (G.pre self.now.level.stmt) (G.post self.now.level.stmt) }
+        ensures { Evals (statements.after_body (spec.stepped_by self.now.level.functions.now (parts self.now.level.functions.now H.meaning self.now.level.calls self.now.level.depth) (option_copied step.entry) frame.now) ending (state.old, host.old)) result (state.new, host.new) }
+    {
+        match ending {
+            Completion::Normal | Completion::Continue => {
+                self.stepped(frame, state, host, step)?;
+                Ok(None)
+            }
+            Completion::Break => Ok(Some(Completion::Normal)),
+            Completion::Return(value) => Ok(Some(Completion::Return(value))),
+        }
+    }
+
+    #[tactic(auto, unfolding(mt_evaluation::specs::Statements::turn_body))]
+    fn turn_body(
+        &self,
+        frame: &[Address],
+        state: &mut State,
+        host: &mut H,
+        body: &Stmt,
+        step: Option<&Expr>,
+    ) -> Result<Option<Completion>, Exit>
+        requires { Nests H.meaning (rank self.now.level.calls self.now.level.depth) (F.pre self.now.level.expr) (F.post self.now.level.expr) (G.pre self.now.level.stmt) (G.post self.now.level.stmt) }
+        ensures { Evals (statements.turn_body ((parts self.now.level.functions.now H.meaning self.now.level.calls self.now.level.depth).stmt body.now frame.now) (spec.stepped_by self.now.level.functions.now (parts self.now.level.functions.now H.meaning self.now.level.calls self.now.level.depth) (option_copied step.entry) frame.now) (state.old, host.old)) result (state.new, host.new) }
+    {
+        let ending = self.stmt(frame, state, host, body)?;
+        self.after_body(frame, state, host, step, ending)
+    }
+
+    /// One turn of a loop; `None` where another one follows.
+    #[tactic(auto, unfolding(mt_evaluation::specs::Statements::turn))]
+    fn turn(
+        &self,
+        frame: &[Address],
+        state: &mut State,
+        host: &mut H,
+        test: Option<&Expr>,
+        body: &Stmt,
+        step: Option<&Expr>,
+    ) -> Result<Option<Completion>, Exit>
+        requires { Nests H.meaning (rank self.now.level.calls self.now.level.depth) (F.pre self.now.level.expr) (F.post self.now.level.expr) (G.pre self.now.level.stmt) (G.post self.now.level.stmt) }
+        ensures { Evals (statements.turn (spec.tested_by self.now.level.functions.now (parts self.now.level.functions.now H.meaning self.now.level.calls self.now.level.depth) (option_copied test.entry) frame.now) ((parts self.now.level.functions.now H.meaning self.now.level.calls self.now.level.depth).stmt body.now frame.now) (spec.stepped_by self.now.level.functions.now (parts self.now.level.functions.now H.meaning self.now.level.calls self.now.level.depth) (option_copied step.entry) frame.now) (state.old, host.old)) result (state.new, host.new) }
+    {
+        let v = self.tested(frame, state, host, test)?;
+        if is_truthy(&v) {
+            return self.turn_body(frame, state, host, body, step);
+        }
+        Ok(Some(Completion::Normal))
+    }
+
+    #[tactic(auto, using(crate::proofs::Turning::turning_on, crate::proofs::Turning::turning_over, crate::proofs::Turning::turning_left, crate::proofs::Turning::turning_stuck))]
+    pub(crate) fn turns(
+        &self,
+        frame: &[Address],
+        state: &mut State,
+        host: &mut H,
+        test: Option<&Expr>,
+        body: &Stmt,
+        step: Option<&Expr>,
+    ) -> Result<Completion, Exit>
+        requires { Nests H.meaning (rank self.now.level.calls self.now.level.depth) (F.pre self.now.level.expr) (F.post self.now.level.expr) (G.pre self.now.level.stmt) (G.post self.now.level.stmt) }
+        ensures { Evals (statements.loop (spec.tested_by self.now.level.functions.now (parts self.now.level.functions.now H.meaning self.now.level.calls self.now.level.depth) (option_copied test.entry) frame.now) ((parts self.now.level.functions.now H.meaning self.now.level.calls self.now.level.depth).stmt body.now frame.now) (spec.stepped_by self.now.level.functions.now (parts self.now.level.functions.now H.meaning self.now.level.calls self.now.level.depth) (option_copied step.entry) frame.now) (state.old, host.old)) result (state.new, host.new) }
+    {
+        loop {
+            let before = state.budget;
+            if let Some(ending) = self.turn(frame, state, host, test, body, step)? {
+                return Ok(ending);
+            }
+            if state.budget >= before {
+                return Err(Exit::Stop(Stop::Budget));
+            }
+        }
+    }
+
+    #[tactic(auto, unfolding(mt_evaluation::specs::Statements::starting))]
+    pub(crate) fn for_loop(
+        &self,
+        frame: &[Address],
+        state: &mut State,
+        host: &mut H,
+        start: &ForStart,
+        test: Option<&Expr>,
+        body: &Stmt,
+        step: Option<&Expr>,
+    ) -> Result<Completion, Exit>
+        requires { Nests H.meaning (rank self.now.level.calls self.now.level.depth) (F.pre self.now.level.expr) (F.post self.now.level.expr) (G.pre self.now.level.stmt) (G.post self.now.level.stmt) }
+        ensures { Evals (statements.starting (spec.started_by self.now.level.functions.now (parts self.now.level.functions.now H.meaning self.now.level.calls self.now.level.depth) start.now frame.now) (statements.loop (spec.tested_by self.now.level.functions.now (parts self.now.level.functions.now H.meaning self.now.level.calls self.now.level.depth) (option_copied test.entry) frame.now) ((parts self.now.level.functions.now H.meaning self.now.level.calls self.now.level.depth).stmt body.now frame.now) (spec.stepped_by self.now.level.functions.now (parts self.now.level.functions.now H.meaning self.now.level.calls self.now.level.depth) (option_copied step.entry) frame.now)) (state.old, host.old)) result (state.new, host.new) }
+    {
+        self.started(frame, state, host, start)?;
+        self.turns(frame, state, host, test, body, step)
+    }
+}

@@ -1,0 +1,92 @@
+ghost use Rattle.mt_evaluation.specs.Runs.{Evals};
+ghost use Rattle.mt_evaluator.specs.Nests.{Nests, rank};
+ghost use Rattle.mt_slots.specs.Slots as spec;
+ghost use Rattle.mt_slots.specs.Slots.{parts};
+ghost use Rattle.mt_slots.specs.declared.stmt.Stmt.{out-Stmt};
+
+use crate::statements::Statements;
+use mt_evaluation::{Completion, Exit, Host, State};
+use mt_slots::{Expr, Function, Stmt};
+use mt_steps::spend;
+use mt_value::{Address, Value};
+use std::alloc::Global;
+
+impl<
+    'a,
+    H: Host,
+    F: Fn(
+        Global,
+        &[Function],
+        usize,
+        usize,
+        &[Address],
+        &mut State,
+        &mut H,
+        &Expr,
+    ) -> Result<Value, Exit>,
+    G: Fn(
+        Global,
+        &[Function],
+        usize,
+        usize,
+        &[Address],
+        &mut State,
+        &mut H,
+        &Stmt,
+    ) -> Result<Completion, Exit>,
+> Statements<'a, H, F, G> {
+    fn form(
+        &self,
+        frame: &[Address],
+        state: &mut State,
+        host: &mut H,
+        t: &Stmt,
+    ) -> Result<Completion, Exit>
+        requires { Nests H.meaning (rank self.now.level.calls self.now.level.depth) (F.pre self.now.level.expr) (F.post self.now.level.expr) (G.pre self.now.level.stmt) (G.post self.now.level.stmt) }
+        ensures { Evals (spec.stmt_at self.now.level.functions.now (parts self.now.level.functions.now H.meaning self.now.level.calls self.now.level.depth) (out-Stmt t.now) frame.now (state.old, host.old)) result (state.new, host.new) }
+    {
+        match t {
+            Stmt::Expr(e) => self.expression(frame, state, host, e),
+            Stmt::Var(kind, decls) => self.var(frame, state, host, *kind, decls.items()),
+            Stmt::If(test, a, b) => self.choice(frame, state, host, test, a.get(), b.as_ref()),
+            Stmt::While(test, body) => self.turns(frame, state, host, Some(test), body.get(), None),
+            Stmt::For(start, test, step, body) => {
+                self.for_loop(
+                    frame,
+                    state,
+                    host,
+                    start,
+                    test.as_ref(),
+                    body.get(),
+                    step.as_ref(),
+                )
+            }
+            Stmt::Return(e) => self.returned(frame, state, host, e.as_ref()),
+            Stmt::Break => Ok(Completion::Break),
+            Stmt::Continue => Ok(Completion::Continue),
+            Stmt::Throw(e) => self.thrown(frame, state, host, e),
+            Stmt::Try(body, t) => self.attempt(frame, state, host, body.get(), t.get()),
+            Stmt::Block(names, items) => self.block(frame, state, host, *names, items.items()),
+            Stmt::Empty => Ok(Completion::Normal),
+        }
+    }
+
+    /// Evaluates a statement.
+    ///
+    /// # Errors
+    /// As the code says, and `NoMemory`.
+    #[tactic(auto, unfolding(mt_slots::specs::Slots::stmt))]
+    pub fn node(
+        &self,
+        frame: &[Address],
+        state: &mut State,
+        host: &mut H,
+        t: &Stmt,
+    ) -> Result<Completion, Exit>
+        requires { Nests H.meaning (rank self.now.level.calls self.now.level.depth) (F.pre self.now.level.expr) (F.post self.now.level.expr) (G.pre self.now.level.stmt) (G.post self.now.level.stmt) }
+        ensures { Evals (spec.stmt self.now.level.functions.now (parts self.now.level.functions.now H.meaning self.now.level.calls self.now.level.depth) t.now frame.now (state.old, host.old)) result (state.new, host.new) }
+    {
+        spend(state, 0)?;
+        self.form(frame, state, host, t)
+    }
+}
