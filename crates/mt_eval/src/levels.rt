@@ -1,0 +1,132 @@
+//! The levels of an evaluation, each over the one below.
+
+ghost use Rattle.mt_evaluation.specs.Runs.{Evals};
+ghost use Rattle.mt_slots.specs.Slots as spec;
+ghost use Rattle.mt_slots.specs.Slots.{parts};
+
+use mt_evaluation::{Completion, Exit, Host, State, Stop};
+use mt_evaluator::Evaluator;
+use mt_expressions::Expressions;
+use mt_frames::enter_unit;
+use mt_slots::{Expr, Function, Stmt, Unit};
+use mt_statements::Statements;
+use mt_value::{Address, Value};
+use std::alloc::Global;
+use std::marker::PhantomData;
+
+/// How many calls of functions may be in progress.
+const MOST_CALLS: usize = 48;
+
+/// How deep code may be.
+const DEEPEST: usize = 60;
+
+#[cycle(evaluate)]
+fn expr_to<H: Host>(
+    alloc: Global,
+    functions: &[Function],
+    calls: usize,
+    depth: usize,
+    frame: &[Address],
+    state: &mut State,
+    host: &mut H,
+    e: &Expr,
+) -> Result<Value, Exit>
+    ensures { Evals ((parts functions.now H.meaning calls depth).expr e.now frame.now (state.old, host.old)) result (state.new, host.new) }
+{
+    if depth == 0 {
+        return Err(Exit::Stop(Stop::Depth));
+    }
+    let level = Evaluator {
+        alloc,
+        functions,
+        calls,
+        depth: depth - 1,
+        expr: expr_to,
+        stmt: stmt_to,
+        host: PhantomData,
+    };
+    Expressions { level }.node(frame, state, host, e)
+}
+
+#[cycle(evaluate)]
+fn stmt_to<H: Host>(
+    alloc: Global,
+    functions: &[Function],
+    calls: usize,
+    depth: usize,
+    frame: &[Address],
+    state: &mut State,
+    host: &mut H,
+    t: &Stmt,
+) -> Result<Completion, Exit>
+    ensures { Evals ((parts functions.now H.meaning calls depth).stmt t.now frame.now (state.old, host.old)) result (state.new, host.new) }
+{
+    if depth == 0 {
+        return Err(Exit::Stop(Stop::Depth));
+    }
+    let level = Evaluator {
+        alloc,
+        functions,
+        calls,
+        depth: depth - 1,
+        expr: expr_to,
+        stmt: stmt_to,
+        host: PhantomData,
+    };
+    Statements { level }.node(frame, state, host, t)
+}
+
+/// Runs the code of a tier.
+///
+/// # Errors
+/// As the code says, and `NoMemory`.
+#[tactic(auto, unfolding(mt_slots::specs::Slots::unit))]
+pub fn run_unit<H: Host>(
+    alloc: Global,
+    functions: &[Function],
+    unit: &Unit,
+    state: &mut State,
+    host: &mut H,
+) -> Result<Value, Exit>
+    ensures { Evals (spec.unit functions.now H.meaning unit.now (state.old, host.old)) result (state.new, host.new) }
+{
+    let frame = enter_unit(alloc, functions, state, unit)?;
+    let level = Evaluator {
+        alloc,
+        functions,
+        calls: MOST_CALLS,
+        depth: DEEPEST,
+        expr: expr_to,
+        stmt: stmt_to,
+        host: PhantomData,
+    };
+    let items = unit.body.statements.items();
+    Expressions { level }.body(MOST_CALLS, DEEPEST, frame.items(), state, host, items)
+}
+
+/// Calls a value; the call itself isn't counted.
+///
+/// # Errors
+/// As the code says, and `NoMemory`.
+#[tactic(auto, unfolding(mt_slots::specs::Slots::called))]
+pub fn run_call<H: Host>(
+    alloc: Global,
+    functions: &[Function],
+    function: &Value,
+    arguments: &[Value],
+    state: &mut State,
+    host: &mut H,
+) -> Result<Value, Exit>
+    ensures { Evals (spec.called functions.now H.meaning function.now arguments.now (state.old, host.old)) result (state.new, host.new) }
+{
+    let level = Evaluator {
+        alloc,
+        functions,
+        calls: MOST_CALLS + 1,
+        depth: DEEPEST,
+        expr: expr_to,
+        stmt: stmt_to,
+        host: PhantomData,
+    };
+    Expressions { level }.applied(state, host, function, arguments)
+}
