@@ -1,0 +1,11 @@
+pub mod Growth
+pub mod Triples
+pub mod Bodies
+pub mod Nodes
+pub mod Statements
+pub mod Makes
+pub mod Sizes
+pub mod Total
+pub mod Depths
+pub mod Captured
+pub mod Empty

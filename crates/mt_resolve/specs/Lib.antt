@@ -1,0 +1,5 @@
+pub mod Services
+pub mod Tops
+pub mod Within
+pub mod Resolved
+pub mod Captured
