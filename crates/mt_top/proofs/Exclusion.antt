@@ -1,13 +1,14 @@
 -- A run ends as expected, or with a fault.
 use Rattle.std.proofs.Common.{◌≡◌, ◌⊎◌, inl, inr, ◌≤◌, ◌<◌, ℕ, List, [], ◌∷◌, length, get_or, codes, Option, None, Some, IfSome, refl, sym, ap, ◌∙◌, arith, subst}
 use Rattle.std.specs.Str.{chars}
-use Rattle.mt_small.specs.Application.{Spells}
 use Rattle.mt_top.specs.declared.status.Status.{Status}
 use Rattle.mt_top.specs.declared.status.Status.TheVariants.{Done, Refused, Usage, BadSchedule, FileFault, SinkFault, WireFault, NoMemory, TooLong, StartFailed, DoorFault}
-use Rattle.mt_top.specs.Words.{Asked, check, replay, Asks}
-use Rattle.mt_top.specs.Texts.{FilesSeen, file_limit, IsRead, IsTooLong, Holds, HoldsMore, IsSmallText, IsNotSmallText, IsNotScheduleText}
+use Rattle.mt_top.specs.Words.{Asked, check, start, replay, Asks}
+use Rattle.mt_top.specs.Texts.{FilesSeen, file_limit, IsRead, IsTooLong, Holds, HoldsMore, IsNotSmallText, IsNotScheduleText}
 use Rattle.mt_source.specs.Sources.{IsAcceptedText, IsNotAcceptedText, IsSourceOf}
-use Rattle.mt_top.specs.Meaning.{SinkSeen, WireSeen, IsOneTooLong, BothRead, BothSpelled, StatusMeans, AskedMeans}
+use Rattle.mt_start.specs.Starts.{Ending, StartsAs, started, failed, unbuilt}
+use Rattle.mt_start.proofs.Starts.{one_ending, none_refused}
+use Rattle.mt_top.specs.Meaning.{SinkSeen, WireSeen, IsUnstartedText, IsOneTooLong, BothRead, BothSpelled, StatusMeans, AskedMeans}
 use Rattle.mt_top.specs.Expected.{BothHold, OneHoldsMore, ExpectedOf, Expected, IsFault}
 
 -- words ask for one thing alone
@@ -15,6 +16,13 @@ asks_same : (words : List (List ℕ)) (x y : Asked) → Asks words x → Asks wo
 asks_same words (check a) (check b) p q = ap check (ap (λ (ws : List (List ℕ)). get_or ws 1 []) (sym p.0 ∙ q.0))
 asks_same words (check a) (replay b t) p q =
     let e : length (codes "check" ∷ a ∷ []) ≡ length (codes "replay" ∷ b ∷ t ∷ []) = ap length (sym p.0 ∙ q.0) in absurd (omega (arith, e))
+asks_same words (start a) (start b) p q = ap start (ap (λ (ws : List (List ℕ)). get_or ws 1 []) (sym p.0 ∙ q.0))
+asks_same words (check a) (start b) p q = let e : ◌≡◌ {A = ℕ} 99 115 = ap (λ (ws : List (List ℕ)). get_or (get_or ws 0 []) 0 0) (sym p.0 ∙ q.0) in absurd (omega (arith, e))
+asks_same words (start a) (check b) p q = let e : ◌≡◌ {A = ℕ} 115 99 = ap (λ (ws : List (List ℕ)). get_or (get_or ws 0 []) 0 0) (sym p.0 ∙ q.0) in absurd (omega (arith, e))
+asks_same words (start a) (replay b t) p q =
+    let e : length (codes "start" ∷ a ∷ []) ≡ length (codes "replay" ∷ b ∷ t ∷ []) = ap length (sym p.0 ∙ q.0) in absurd (omega (arith, e))
+asks_same words (replay a s) (start b) p q =
+    let e : length (codes "replay" ∷ a ∷ s ∷ []) ≡ length (codes "start" ∷ b ∷ []) = ap length (sym p.0 ∙ q.0) in absurd (omega (arith, e))
 asks_same words (replay a s) (check b) p q =
     let e : length (codes "replay" ∷ a ∷ s ∷ []) ≡ length (codes "check" ∷ b ∷ []) = ap length (sym p.0 ∙ q.0) in absurd (omega (arith, e))
 asks_same words (replay a s) (replay b t) p q =
@@ -121,6 +129,70 @@ of_check files sink wire a NoMemory r x m = absurd x
 of_check files sink wire a StartFailed r x m = absurd x
 of_check files sink wire a DoorFault r x m = absurd x
 
+-- one text has one ending
+abbrev of_ending : {A : Type 0} → A → A → A → Ending → A
+of_ending a b c (started log) = a
+of_ending a b c (failed error) = b
+of_ending a b c unbuilt = c
+
+same_text : (files : FilesSeen) (name bytes text : List ℕ) (x : Ending) → IsRead files name bytes → Holds files name text → StartsAs bytes x → StartsAs text x
+same_text files name bytes text x read holds is = subst (λ (t : List ℕ). StartsAs t x) (told_same (files.contents (chars name)) bytes text read.0 holds.0) is
+
+same_unstarted : (files : FilesSeen) (name bytes text : List ℕ) → IsRead files name bytes → Holds files name text → IsUnstartedText bytes → IsUnstartedText text
+same_unstarted files name bytes text read holds is = subst (λ (t : List ℕ). IsUnstartedText t) (told_same (files.contents (chars name)) bytes text read.0 holds.0) is
+
+not_unstarted : (text : List ℕ) (x : Ending) → (x ≡ unbuilt → ⊥) → StartsAs text x → IsUnstartedText text → ⊥
+not_unstarted text x other is (inl none) = none_refused text x is none
+not_unstarted text x other is (inr built) = other (one_ending text x unbuilt is built)
+
+started_not : (log : List ℕ) → started log ≡ unbuilt → ⊥
+started_not log e = let n : ◌≡◌ {A = ℕ} 0 2 = ap (of_ending 0 1 2) e in absurd (omega (arith, n))
+
+failed_not : (error : List ℕ) → failed error ≡ unbuilt → ⊥
+failed_not error e = let n : ◌≡◌ {A = ℕ} 1 2 = ap (of_ending 0 1 2) e in absurd (omega (arith, n))
+
+not_both : (text log error : List ℕ) → StartsAs text (started log) → StartsAs text (failed error) → ⊥
+not_both text log error s f = let n : ◌≡◌ {A = ℕ} 0 1 = ap (of_ending 0 1 2) (one_ending text (started log) (failed error) s f) in omega (arith, n)
+
+of_start : (files : FilesSeen) (sink : SinkSeen) (wire : WireSeen) (a : List ℕ) (e r : Status)
+    → ExpectedOf files (start a) e → AskedMeans files sink wire (start a) r → (r ≡ e) ⊎ IsFault r
+of_start files sink wire a e FileFault x m = inr tt
+of_start files sink wire a e SinkFault x m = inr tt
+of_start files sink wire a e NoMemory x m = inr tt
+of_start files sink wire a e WireFault x m = absurd m
+of_start files sink wire a e DoorFault x m = absurd m
+of_start files sink wire a e Usage x m = absurd m
+of_start files sink wire a e BadSchedule x m = absurd m
+of_start files sink wire a Done Done x m = inl refl
+of_start files sink wire a Refused Refused x m = inl refl
+of_start files sink wire a StartFailed StartFailed x m = inl refl
+of_start files sink wire a TooLong TooLong x m = inl refl
+of_start files sink wire a TooLong Done x m = absurd (never_more files a m.0 m.1 x)
+of_start files sink wire a TooLong Refused x m = absurd (never_more files a m.0 m.1 x)
+of_start files sink wire a TooLong StartFailed x m = absurd (never_more files a m.0 m.1 x)
+of_start files sink wire a Done TooLong x m = absurd (never_long files a x.0 m.0 x.1)
+of_start files sink wire a Refused TooLong x m = absurd (never_long files a x.0 m.0 x.1)
+of_start files sink wire a StartFailed TooLong x m = absurd (never_long files a x.0 m.0 x.1)
+of_start files sink wire a Done Refused (text, holds, (log, is)) (bytes, read, (un, wrote)) =
+    absurd (not_unstarted text (started log) (started_not log) is (same_unstarted files a bytes text read holds un))
+of_start files sink wire a StartFailed Refused (text, holds, (error, is)) (bytes, read, (un, wrote)) =
+    absurd (not_unstarted text (failed error) (failed_not error) is (same_unstarted files a bytes text read holds un))
+of_start files sink wire a Refused Done (text, holds, un) (bytes, read, (log, is, wrote)) =
+    absurd (not_unstarted text (started log) (started_not log) (same_text files a bytes text (started log) read holds is) un)
+of_start files sink wire a Refused StartFailed (text, holds, un) (bytes, read, (error, is, wrote)) =
+    absurd (not_unstarted text (failed error) (failed_not error) (same_text files a bytes text (failed error) read holds is) un)
+of_start files sink wire a Done StartFailed (text, holds, (log, is)) (bytes, read, (error, fails, wrote)) =
+    absurd (not_both text log error is (same_text files a bytes text (failed error) read holds fails))
+of_start files sink wire a StartFailed Done (text, holds, (error, fails)) (bytes, read, (log, is, wrote)) =
+    absurd (not_both text log error (same_text files a bytes text (started log) read holds is) fails)
+of_start files sink wire a Usage r x m = absurd x
+of_start files sink wire a BadSchedule r x m = absurd x
+of_start files sink wire a FileFault r x m = absurd x
+of_start files sink wire a SinkFault r x m = absurd x
+of_start files sink wire a WireFault r x m = absurd x
+of_start files sink wire a NoMemory r x m = absurd x
+of_start files sink wire a DoorFault r x m = absurd x
+
 of_replay : (files : FilesSeen) (sink : SinkSeen) (wire : WireSeen) (a s : List ℕ) (e r : Status)
     → ExpectedOf files (replay a s) e → AskedMeans files sink wire (replay a s) r → (r ≡ e) ⊎ IsFault r
 of_replay files sink wire a s e FileFault x m = inr tt
@@ -157,6 +229,7 @@ of_replay files sink wire a s DoorFault r x m = absurd x
 of_asked : (files : FilesSeen) (sink : SinkSeen) (wire : WireSeen) (asked : Asked) (e r : Status)
     → ExpectedOf files asked e → AskedMeans files sink wire asked r → (r ≡ e) ⊎ IsFault r
 of_asked files sink wire (check a) e r x m = of_check files sink wire a e r x m
+of_asked files sink wire (start a) e r x m = of_start files sink wire a e r x m
 of_asked files sink wire (replay a s) e r x m = of_replay files sink wire a s e r x m
 
 abbrev AsksFor : (Asked → Type 0) → List (List ℕ) → Type 0

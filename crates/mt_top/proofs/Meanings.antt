@@ -9,9 +9,9 @@ use Rattle.mt_small.specs.Readable.{AsksForTarget}
 use Rattle.mt_small.specs.Schedule.{SpellsSchedule}
 use Rattle.mt_top.specs.declared.status.Status.{Status}
 use Rattle.mt_top.specs.declared.status.Status.TheVariants.{Done, Refused, Usage, BadSchedule, FileFault, SinkFault, WireFault, NoMemory, TooLong, StartFailed, DoorFault}
-use Rattle.mt_top.specs.Words.{check, replay, Asks}
+use Rattle.mt_top.specs.Words.{check, start, replay, Asks}
 use Rattle.mt_top.specs.Texts.{FilesSeen, IsRead}
-use Rattle.mt_top.specs.Meaning.{SinkSeen, WireSeen, BothRead, StatusMeans, CheckMeans, ReplayMeans, TextsMean, CommandsMean}
+use Rattle.mt_top.specs.Meaning.{SinkSeen, WireSeen, BothRead, StatusMeans, CheckMeans, StartMeans, TextStarts, ReplayMeans, TextsMean, CommandsMean}
 
 -- where the commands ask for targets
 pub with_targets : (commands : List SmallCommand) (messages : Option (List Message)) (X : Type 0) → AllByRecursion AsksForTarget commands
@@ -81,6 +81,40 @@ of_check files sink wire words a BadSchedule asks means = absurd means
 of_check files sink wire words a WireFault asks means = absurd means
 of_check files sink wire words a StartFailed asks means = absurd means
 of_check files sink wire words a DoorFault asks means = absurd means
+
+pub of_start : (files : FilesSeen) (sink : SinkSeen) (wire : WireSeen) (words : List (List ℕ)) (a : List ℕ) (status : Status)
+    → Asks words (start a) → StartMeans files sink a status → StatusMeans files sink wire words status
+of_start files sink wire words a SinkFault asks means = means
+of_start files sink wire words a NoMemory asks means = tt
+of_start files sink wire words a Done asks means = (start a, asks, means)
+of_start files sink wire words a Refused asks means = (start a, asks, means)
+of_start files sink wire words a FileFault asks means = (start a, asks, means)
+of_start files sink wire words a TooLong asks means = (start a, asks, means)
+of_start files sink wire words a StartFailed asks means = (start a, asks, means)
+of_start files sink wire words a Usage asks means = absurd means
+of_start files sink wire words a BadSchedule asks means = absurd means
+of_start files sink wire words a WireFault asks means = absurd means
+of_start files sink wire words a DoorFault asks means = absurd means
+
+-- what a status says of the start of a text that was read
+pub of_started : (files : FilesSeen) (sink : SinkSeen) (a text : List ℕ) (status : Status)
+    → IsRead files a text → TextStarts sink text status → StartMeans files sink a status
+of_started files sink a text Done read means = (text, read, means)
+of_started files sink a text StartFailed read means = (text, read, means)
+of_started files sink a text Refused read means = (text, read, means)
+of_started files sink a text SinkFault read means = means
+of_started files sink a text NoMemory read means = tt
+of_started files sink a text Usage read means = absurd means
+of_started files sink a text BadSchedule read means = absurd means
+of_started files sink a text FileFault read means = absurd means
+of_started files sink a text WireFault read means = absurd means
+of_started files sink a text TooLong read means = absurd means
+of_started files sink a text DoorFault read means = absurd means
+
+-- words that ask for a start ask for no replay
+pub not_start : (words : List (List ℕ)) (a b s : List ℕ) → Asks words (start a) → Asks words (replay b s) → ⊥
+not_start words a b s p q =
+    let e : length (codes "start" ∷ a ∷ []) ≡ length (codes "replay" ∷ b ∷ s ∷ []) = ap length (sym p.0 ∙ q.0) in omega (arith, e)
 
 -- words that ask for a check ask for no replay
 pub not_both : (words : List (List ℕ)) (a b s : List ℕ) → Asks words (check a) → Asks words (replay b s) → ⊥

@@ -1,5 +1,6 @@
 -- The lines that a run writes where it has no other output.
 use Rattle.std.specs.Prelude.{◌++◌, ℕ, List, [], codes, decimal}
+use Rattle.mt_syntax.specs.DataText.{json_text}
 use Rattle.mt_tree.specs.declared.place.Place.{Place}
 use Rattle.mt_lexer.specs.declared.refusal.LexRefusal.{LexRefusal}
 use Rattle.mt_lexer.specs.declared.refusal.LexRefusal.TheVariants.{NotUtf8, BadCharacter, BadEscape, Unclosed, NumberTooLarge, TooManyTokens, NoMemory}
@@ -19,6 +20,14 @@ usage_text =
 -- the application is accepted
 unfoldable pub accepted_line : List ℕ
 accepted_line = codes "accepted\n"
+
+-- the application reached the end of its start
+unfoldable pub started_line : List ℕ
+started_line = codes "started\n"
+
+-- it did not, with this text
+abbrev pub failed_line : List ℕ → List ℕ
+failed_line text = codes "start failed: " ++ json_text text ++ codes "\n"
 
 -- the application uses what is not built
 unfoldable pub not_built_line : List ℕ

@@ -1,5 +1,5 @@
 -- What each status of a run says of its words, its files and what it wrote.
-use Rattle.std.specs.Prelude.{◌≡◌, ◌⊎◌, ℕ, Bool, false, List, [], Option, None, Some, IfSome, ⊤}
+use Rattle.std.specs.Prelude.{◌≡◌, ◌⊎◌, ◌++◌, ℕ, Bool, false, List, [], Option, None, Some, IfSome, ⊤}
 use Rattle.std.specs.Str.{chars}
 use Rattle.std.specs.Io.KnownBytes.{append_known}
 use Rattle.mt_outside.specs.Cause.{Rose}
@@ -13,11 +13,12 @@ use Rattle.mt_session.specs.Sides.{transcript, parties_from, sends_from}
 use Rattle.mt_session.specs.WireFits.{ActedAreTaken, table}
 use Rattle.mt_top.specs.declared.status.Status.{Status}
 use Rattle.mt_top.specs.declared.status.Status.TheVariants.{Done, Refused, Usage, BadSchedule, FileFault, SinkFault, WireFault, NoMemory, TooLong, StartFailed, DoorFault}
-use Rattle.mt_top.specs.Words.{Asked, check, replay, Asks, AsksNothing}
-use Rattle.mt_top.specs.Lines.{usage_text, accepted_line, file_fault_line, too_long_line, bad_line}
+use Rattle.mt_top.specs.Words.{Asked, check, start, replay, Asks, AsksNothing}
+use Rattle.mt_top.specs.Lines.{usage_text, accepted_line, failed_line, file_fault_line, started_line, too_long_line, bad_line}
 use Rattle.mt_top.specs.Texts.{FilesSeen, IsRead, IsTooLong, IsSmallText, IsNotSmallText, IsNotScheduleText}
 use Rattle.mt_source.specs.Sources.{IsAcceptedText, IsNotAcceptedText}
-use Rattle.mt_top.specs.Refusals.{IsRefusalLine, IsUnplayedLine}
+use Rattle.mt_top.specs.Refusals.{IsRefusalLine, IsUnplayedLine, IsUnstartedLine}
+use Rattle.mt_start.specs.Starts.{StartsAs, started, failed, unbuilt}
 
 -- the sink of a run: what it holds and its count of faults, before and after
 pub record SinkSeen : Type 0 where
@@ -43,6 +44,10 @@ WroteRefusal sink text = (line : List ℕ) × IsRefusalLine text line × Wrote s
 -- the sink holds in addition why the text is not played
 abbrev pub WroteUnplayed : SinkSeen → List ℕ → Type 0
 WroteUnplayed sink text = (line : List ℕ) × IsUnplayedLine text line × Wrote sink line
+
+-- the sink holds in addition why the text is not started
+abbrev pub WroteUnstarted : SinkSeen → List ℕ → Type 0
+WroteUnstarted sink text = (line : List ℕ) × IsUnstartedLine text line × Wrote sink line
 
 -- The schedule was played to its end. Where the wire tells its lists, the transcript and what was sent are those of server and clients
 -- for the bytes that the wire gave, and each message on which a side acted was taken to its end, or to 65,537 bytes.
@@ -123,6 +128,38 @@ CheckMeans files sink name WireFault = ⊥
 CheckMeans files sink name StartFailed = ⊥
 CheckMeans files sink name DoorFault = ⊥
 
+-- the text is not accepted, or it makes at its start what is not built
+abbrev pub IsUnstartedText : List ℕ → Type 0
+IsUnstartedText text = IsNotAcceptedText text ⊎ StartsAs text unbuilt
+
+-- what a status says of the start of this text
+abbrev pub TextStarts : SinkSeen → List ℕ → Status → Type 0
+TextStarts sink text Done = (log : List ℕ) × StartsAs text (started log) × Wrote sink (log ++ started_line)
+TextStarts sink text StartFailed = (error : List ℕ) × StartsAs text (failed error) × Wrote sink (failed_line error)
+TextStarts sink text Refused = IsUnstartedText text × WroteUnstarted sink text
+TextStarts sink text SinkFault = Rose sink.faults sink.faults_after
+TextStarts sink text NoMemory = ⊤
+TextStarts sink text Usage = ⊥
+TextStarts sink text BadSchedule = ⊥
+TextStarts sink text FileFault = ⊥
+TextStarts sink text WireFault = ⊥
+TextStarts sink text TooLong = ⊥
+TextStarts sink text DoorFault = ⊥
+
+-- what a status says of the start of this file
+abbrev pub StartMeans : FilesSeen → SinkSeen → List ℕ → Status → Type 0
+StartMeans files sink name Done = (text : List ℕ) × IsRead files name text × TextStarts sink text Done
+StartMeans files sink name StartFailed = (text : List ℕ) × IsRead files name text × TextStarts sink text StartFailed
+StartMeans files sink name Refused = (text : List ℕ) × IsRead files name text × TextStarts sink text Refused
+StartMeans files sink name FileFault = HasFailed files name × Wrote sink file_fault_line
+StartMeans files sink name TooLong = IsTooLong files name × Wrote sink too_long_line
+StartMeans files sink name SinkFault = Rose sink.faults sink.faults_after
+StartMeans files sink name NoMemory = ⊤
+StartMeans files sink name Usage = ⊥
+StartMeans files sink name BadSchedule = ⊥
+StartMeans files sink name WireFault = ⊥
+StartMeans files sink name DoorFault = ⊥
+
 -- both files were read whole
 pub record BothRead (files : FilesSeen) (application_name schedule_name : List ℕ) (P : List ℕ → List ℕ → Type 0) : Type 0 where
   pub application : List ℕ
@@ -156,6 +193,7 @@ ReplayMeans files sink wire a s DoorFault = ⊥
 -- what a status says of a run that carries out what was asked
 abbrev pub AskedMeans : FilesSeen → SinkSeen → WireSeen → Asked → Status → Type 0
 AskedMeans files sink wire (check application) status = CheckMeans files sink application status
+AskedMeans files sink wire (start application) status = StartMeans files sink application status
 AskedMeans files sink wire (replay application schedule) status = ReplayMeans files sink wire application schedule status
 
 -- what a status says of a run of these words: they ask for nothing, and the usage was written, or they ask for this

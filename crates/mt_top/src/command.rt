@@ -8,6 +8,7 @@ use crate::checking::check;
 use crate::lines::usage;
 use crate::output::write_output;
 use crate::replaying::replay;
+use crate::starting::start;
 use crate::status::Status;
 use crate::words::{Command, read_words};
 use mt_outside::{Door, Files, Sink, Wire};
@@ -15,15 +16,15 @@ use std::alloc::Global;
 
 /// Carries out the command that the words spell. They are the words after the program's name.
 ///
-/// - `check APP` reads the application in the file APP. A small application is accepted; any other text is refused with its first refusal of
-///   spelling or grammar, or else as one that uses what is not built.
+/// - `check APP` reads the application in the file APP, and accepts it or names its first refusal of spelling, grammar or stage rules.
+/// - `start APP` evaluates the top level of the application in the file APP, and writes the lines that it logs, or why it failed.
 /// - `replay APP SCHEDULE` reads the small application in the file APP and the schedule in the file SCHEDULE, plays the schedule
 ///   over the wire, and writes the transcript.
 ///
 /// A file has at most 1,048,576 bytes. No name of a file is empty or begins with a dash. All other words are `Usage`.
 ///
 /// The words come first, then the application's file, the schedule's file, the application's text, the schedule's text, the
-/// wire and the run: the first of them that fails gives the status. The sink holds nothing but what is said of the status.
+/// wire, the start and the run: the first of them that fails gives the status. The sink holds nothing but what is said of the status.
 pub fn run<F: Files, O: Sink, W: Wire, D: Door>(
     alloc: Global,
     words: &[String],
@@ -97,6 +98,7 @@ fn carry_out<F: Files, O: Sink, W: Wire>(
 {
     match read_words(words) {
         Some(Command::Check(application)) => check(alloc, application, files, out),
+        Some(Command::Start(application)) => start(alloc, application, files, out),
         Some(Command::Replay(application, schedule)) => {
             replay(alloc, application, schedule, files, out, wire)
         }

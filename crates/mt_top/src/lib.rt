@@ -1,4 +1,4 @@
-//! The top call: reads the words, the application and the schedule, plays it, and writes the output.
+//! The top call: reads the words, the application and the schedule, checks, starts or plays it, and writes the output.
 //!
 //! `run` promises, for each status that it may end with, what this says of the words, the files and the output, and that it
 //! ends with the status that they ask for, faults of the outside and want of memory aside. Its clause on a replay that ends
@@ -15,6 +15,7 @@ mod output;
 mod play;
 mod refusing;
 mod replaying;
+mod starting;
 mod status;
 mod texts;
 mod words;

@@ -1,15 +1,16 @@
 ghost use Rattle.std.specs.Prelude.{◌≡◌, ◌++◌, IfOk, OnOk, Err, codes, decimal};
 ghost use Rattle.mt_rules.specs.First.{number_of};
-ghost use Rattle.mt_top.specs.Lines.{usage_text, accepted_line, grammar_line, not_built_line, file_fault_line, too_long_line, bad_line, refused_at, rules_line, spelling_line};
+ghost use Rattle.mt_top.specs.Lines.{usage_text, accepted_line, failed_line, grammar_line, not_built_line, file_fault_line, too_long_line, bad_line, refused_at, rules_line, spelling_line, started_line};
 ghost use Rattle.mt_source.specs.Sources.{IsOfText};
 ghost use Rattle.mt_source.specs.declared.refusal.SourceRefusal.TheVariants as source;
 
+use mt_json_write::json_text;
 use mt_lexer::LexRefusal;
 use mt_parser::ParseRefusal;
 use mt_rules::Rule;
 use mt_small::{append, append_number};
 use mt_stage::StageRefusal;
-use mt_tree::{NoMemory, Place};
+use mt_tree::{NoMemory, Place, Text};
 use std::alloc::Global;
 
 /// What is written where the words are no command.
@@ -26,6 +27,25 @@ pub fn accepted() -> &'static [u8]
     ensures { result.now ≡ accepted_line }
 {
     b"accepted\n"
+}
+
+/// What is written where the application reached the end of its start.
+#[tactic(auto, unfolding(crate::specs::Lines::started_line))]
+pub fn started() -> &'static [u8]
+    ensures { result.now ≡ started_line }
+{
+    b"started\n"
+}
+
+/// What is written where its start failed, with this text.
+pub fn failed_line(alloc: Global, text: &Text) -> Result<Vec<u8>, NoMemory>
+    ensures { IfOk result (λ line. line.items ≡ failed_line text.now) }
+{
+    let mut line = Vec::new(alloc);
+    append(&mut line, b"start failed: ")?;
+    json_text(text, &mut line)?;
+    append(&mut line, b"\n")?;
+    Ok(line)
 }
 
 /// What is written where the application uses what is not built.

@@ -7,6 +7,8 @@ ghost use Rattle.mt_top.specs.Words.{Asks, AsksNothing, asked_by};
 pub enum Command<'a> {
     /// `check APP`
     Check(&'a str),
+    /// `start APP`
+    Start(&'a str),
     /// `replay APP SCHEDULE`
     Replay(&'a str, &'a str),
 }
@@ -28,8 +30,11 @@ pub fn read_words(words: &[String]) -> Option<Command<'_>>
     match words {
         [command, application] => {
             let application = application.as_str();
-            if command.as_str() == "check" && is_file_name(application) {
+            let command = command.as_str();
+            if command == "check" && is_file_name(application) {
                 Some(Command::Check(application))
+            } else if command == "start" && is_file_name(application) {
+                Some(Command::Start(application))
             } else {
                 None
             }

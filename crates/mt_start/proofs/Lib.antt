@@ -1,0 +1,3 @@
+mod Endings
+pub mod Starts
+mod Words
