@@ -1,0 +1,6 @@
+pub mod Building
+mod Chains
+mod Levels
+mod Measures
+mod Names
+mod Parts

@@ -1,0 +1,23 @@
+//! Marshalling: what a list of values is as data that can leave its tier, or the first rule that it breaks.
+//!
+//! [`snapshot`] walks the values depth first and gives their data, or the first broken rule with what was counted up to it, as
+//! `specs/Snapshot.antt` says. The data hold no address, so that a later change of a cell isn't seen in them. [`build`] is the way back:
+//! fresh cells for data. The hosts of the server and of the client stand on this crate.
+#![tactic(auto)]
+
+mod cells;
+mod counts;
+mod laws;
+mod node;
+mod refusal;
+mod rule;
+mod walk;
+
+pub use laws::built_data_are_lawful;
+pub use mt_data_cells::build;
+pub use refusal::Refused;
+pub use rule::MarshalRule;
+pub use walk::snapshot;
+
+#[cfg(test)]
+mod tests;
