@@ -1,0 +1,9 @@
+pub mod Found
+pub mod LiteralTexts
+pub mod Many
+pub mod NameBytes
+pub mod OperatorTexts
+pub mod Pieces
+pub mod PlainWords
+pub mod ValueTexts
+pub mod WordTexts

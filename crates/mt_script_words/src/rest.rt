@@ -1,0 +1,39 @@
+ghost use Rattle.std.specs.Prelude.{◌≡◌, drop};
+ghost use Rattle.mt_json.specs.Reading.{first_at, past_comma};
+ghost use Rattle.mt_script_words.specs.Outcome.{Gives};
+
+use crate::refusal::CodeRefusal;
+
+/// The bytes without so many of the first, or none where there are fewer.
+pub fn skip(bytes: &[u8], count: usize) -> &[u8]
+    ensures { result.now ≡ drop count bytes.now }
+{
+    if count <= bytes.len() {
+        &bytes[count..]
+    } else {
+        &[]
+    }
+}
+
+/// The bytes without the comma that they begin with, if they do.
+pub fn past_comma(bytes: &[u8]) -> &[u8]
+    ensures { result.now ≡ past_comma bytes.now }
+{
+    match bytes {
+        [b',', rest @ ..] => rest,
+        _ => bytes,
+    }
+}
+
+/// The first byte, and the others.
+///
+/// # Errors
+/// `NotCode` where there is none.
+pub fn first(bytes: &[u8]) -> Result<(u8, &[u8]), CodeRefusal>
+    ensures { Gives (λ x. (x.0, x.1.now)) result (first_at bytes.now) }
+{
+    match bytes {
+        [] => Err(CodeRefusal::NotCode),
+        [b, rest @ ..] => Ok((*b, rest)),
+    }
+}
