@@ -30,7 +30,7 @@ pub enum Startup {
     Failed(Text),
     /// It made a frame, client code or an element, which this host does not build.
     NotBuilt,
-    /// The text is not accepted.
+    /// The text is not accepted, for this reason; or memory ran out while it was read.
     Refused(SourceRefusal),
 }
 
