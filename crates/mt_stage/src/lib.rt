@@ -5,8 +5,8 @@
 //! read from a page whether it breaks one of the two rules that such code can break. The resolver, the server and the audit
 //! stand on checked programs.
 //!
-//! `Accepted` in `specs` has the list of broken places of a program and the record of what is known of an accepted one, `Texts` the length of
-//! its longest text, and `Services` the names of its services.
+//! `Accepted` in `specs` has the list of broken places of a program and the record of what is known of an accepted one, `CodeLimits` which
+//! client code is within the limits, `Texts` the length of the longest text, and `Services` the names of the services.
 #![tactic(auto)]
 
 mod checked;
