@@ -7,8 +7,8 @@ ghost use Rattle.mt_agreement.specs.Free.{cut, without};
 ghost use Rattle.mt_agreement.specs.Scopes as spec;
 
 use crate::slot::Slot;
-use mt_free::{has, push, push_name, without};
-use mt_tree::{NoMemory, Row, Text};
+use mt_free::{has, push_name, without};
+use mt_tree::{NoMemory, Row, Text, push};
 use std::alloc::Global;
 
 /// The slot of the name in a scope: the newest of that name. Takes no memory.

@@ -6,11 +6,10 @@ ghost use Rattle.mt_builder.specs.Answer.{GivesList, Changes};
 ghost use Rattle.mt_builder.specs.Growing.{grown_by, grown};
 
 use crate::fault::Fault;
-use crate::parts::push;
 use crate::reading::{inside, part};
 use crate::rose::Rose;
 use mt_nodes::Node;
-use mt_tree::{NoMemory, Row};
+use mt_tree::{NoMemory, Row, push};
 use std::alloc::Global;
 
 // The last trees, so many; the others stay.

@@ -1,6 +1,5 @@
 //! The values in a node, taken from their front.
 
-ghost use Rattle.std.specs.Prelude.{◌≡◌, ◌++◌, ◌∷◌, [], OnOk};
 ghost use Rattle.std.specs.Vec.Iter.{into_iter_items};
 ghost use Rattle.mt_builder.specs.Answer.{GivesWith};
 ghost use Rattle.mt_builder.specs.Parts as spec;
@@ -9,17 +8,8 @@ use crate::fault::Fault;
 use crate::value::Value;
 use mt_grammar::Heading;
 use mt_syntax::{Decl, Expr, ForStart, Mark, MarkupAttribute, MarkupChild, Prop, Stmt};
-use mt_tree::{NoMemory, Text};
+use mt_tree::Text;
 use std::vec::IntoIter;
-
-pub(crate) fn push<T: Drop>(list: &mut Vec<T>, item: T) -> Result<(), NoMemory>
-    ensures { OnOk result (list.new.items ≡ list.old.items ++ item ∷ []) }
-{
-    match list.push(item) {
-        Ok(()) => Ok(()),
-        Err(_refused) => Err(NoMemory),
-    }
-}
 
 pub(crate) fn expr(parts: &mut IntoIter<Value>) -> Result<Expr, Fault>
     ensures { GivesWith result (into_iter_items parts.new) (spec.expr_first (into_iter_items parts.old)) }

@@ -7,10 +7,10 @@ ghost use Rattle.mt_builder.specs.Answer.{GivesWith};
 ghost use Rattle.mt_builder.specs.Parts as spec;
 
 use crate::fault::Fault;
-use crate::parts::{attribute, child, decl, expr, prop, push, stmt, word};
+use crate::parts::{attribute, child, decl, expr, prop, stmt, word};
 use crate::value::Value;
 use mt_syntax::{Decl, Expr, Mark, MarkupAttribute, MarkupChild, Prop, Stmt};
-use mt_tree::Row;
+use mt_tree::{Row, push};
 use std::alloc::Global;
 use std::vec::IntoIter;
 

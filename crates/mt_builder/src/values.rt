@@ -14,13 +14,13 @@ use crate::fault::Fault;
 use crate::found::{Found, nothing_after};
 use crate::kinds::{expr_kind, piece, stmt_kind};
 use crate::part::Part;
-use crate::parts::{expr, push};
+use crate::parts::expr;
 use crate::rose::Rose;
 use crate::rows::row;
 use crate::tier::Tier;
 use crate::value::Value;
 use mt_syntax::{Expr, ExprKind, Stmt, StmtKind, Tilde};
-use mt_tree::{Boxed, NoMemory, Place, Row};
+use mt_tree::{Boxed, NoMemory, Place, Row, push};
 use std::alloc::Global;
 use std::vec::IntoIter;
 

@@ -3,11 +3,10 @@ ghost use Rattle.mt_agreement.specs.Free.{finding, free_of};
 ghost use Rattle.mt_free.specs.Tildes.{NamesTildes, names_at, next_names};
 ghost use Rattle.mt_syntax.specs.Fold.{on_expr};
 
-use crate::list::push;
 use crate::names::{push_name, without};
 use crate::walk::{exprs, function};
 use mt_syntax::{Expr, Function, Tilde};
-use mt_tree::{NoMemory, Row, Text};
+use mt_tree::{NoMemory, Row, Text, push};
 use std::alloc::Global;
 use std::marker::Model;
 

@@ -11,12 +11,10 @@
 
 mod free;
 mod hoisting;
-mod list;
 mod names;
 mod used;
 mod walk;
 
 pub use free::FreeNames;
 pub use hoisting::{function_names, service_names, variables};
-pub use list::push;
 pub use names::{has, names_of, push_name, without};

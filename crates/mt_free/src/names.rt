@@ -2,9 +2,8 @@ ghost use Rattle.std.specs.Prelude.{◌≡◌, ◌++◌, ◌∷◌, [], IfOk, On
 ghost use Rattle.mt_agreement.specs.Free as spec;
 ghost use Rattle.mt_evaluation.specs.Hoisting.{names_of};
 
-use crate::list::push;
 use mt_syntax::Mark;
-use mt_tree::{NoMemory, Text};
+use mt_tree::{NoMemory, Text, push};
 use std::alloc::Global;
 
 /// Whether the name is one of the names. Takes no memory.

@@ -15,12 +15,12 @@ use crate::service::Service;
 use crate::units::{UnitId, Units};
 use mt_bindings::{Entry, Slot, Surroundings, enter};
 use mt_evaluation::Exit;
-use mt_free::{push, variables};
+use mt_free::variables;
 use mt_resolver::{Resolver, all_hoisted, body, declared_function, stmts};
 use mt_slots::{Body, Function, Unit};
 use mt_syntax as syntax;
 use mt_syntax::{Program, Stmt, StmtKind};
-use mt_tree::{NoMemory, Row};
+use mt_tree::{NoMemory, Row, push};
 use std::alloc::Global;
 
 // How deep syntax may be.

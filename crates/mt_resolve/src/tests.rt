@@ -2,9 +2,8 @@ ghost use Rattle.std.specs.Prelude.{◌≡◌, [], IfOk};
 
 use super::*;
 use crate::program::{add_client, units_of};
-use mt_free::push;
 use mt_syntax::{Function, Mark, Program, Stmt, StmtKind};
-use mt_tree::{NoMemory, Place, Row, Text};
+use mt_tree::{NoMemory, Place, Row, Text, push};
 use std::alloc::Global;
 use std::test::Fail;
 

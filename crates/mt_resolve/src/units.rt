@@ -2,9 +2,8 @@ ghost use Rattle.std.specs.Prelude.{◌≡◌, ◌<◌, ◌++◌, ◌∷◌, [],
 ghost use Rattle.mt_resolve.specs.Services.{captured_by, function_of, nothing};
 
 use crate::service::Service;
-use mt_free::push;
 use mt_slots::{Body, Function, Unit};
-use mt_tree::{NoMemory, Row, Text};
+use mt_tree::{NoMemory, Row, Text, push};
 use std::alloc::Global;
 use std::marker::Model;
 

@@ -11,11 +11,10 @@ use crate::resolver::{Resolver, add};
 use crate::statements::stmts;
 use mt_bindings::{Slot, captured_scope, enter, own_given, slots, sum};
 use mt_evaluation::{Exit, Stop};
-use mt_free::push;
 use mt_slots::{Body, Function, Hoisted};
 use mt_syntax as syntax;
 use mt_syntax::{Mark, Stmt, StmtKind};
-use mt_tree::{NoMemory, Row, Text};
+use mt_tree::{NoMemory, Row, Text, push};
 
 // The name that a function expression has inside.
 pub fn own_name(function: &syntax::Function) -> Result<Option<Text>, NoMemory>

@@ -7,11 +7,10 @@ use crate::markup::{attributes, children};
 use crate::resolver::Resolver;
 use mt_bindings::Slot;
 use mt_evaluation::{Exit, Stop};
-use mt_free::push;
 use mt_slots::{Entry, Expr, Function};
 use mt_syntax as syntax;
 use mt_syntax::{ExprKind, Prop};
-use mt_tree::{Boxed, Row};
+use mt_tree::{Boxed, Row, push};
 
 #[cycle(resolving)]
 pub fn expr(

@@ -7,10 +7,9 @@ use crate::expressions::expr;
 use crate::resolver::Resolver;
 use mt_bindings::Slot;
 use mt_evaluation::Exit;
-use mt_free::push;
 use mt_slots::{Attribute, Function, Piece};
 use mt_syntax::{MarkupAttribute, MarkupChild, MarkupValue};
-use mt_tree::Row;
+use mt_tree::{Row, push};
 
 #[cycle(resolving)]
 fn piece_of_value(

@@ -3,8 +3,8 @@ ghost use Rattle.mt_resolver.specs.Resolving as spec;
 
 use mt_bindings::{Surroundings, sum};
 use mt_evaluation::Exit;
-use mt_free::push;
 use mt_slots::Function;
+use mt_tree::push;
 use std::alloc::Global;
 
 /// What stays the same while code is resolved.

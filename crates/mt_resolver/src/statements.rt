@@ -9,11 +9,10 @@ use crate::expressions::{expr, value};
 use crate::resolver::Resolver;
 use mt_bindings::{Entry, Slot, sum};
 use mt_evaluation::{Exit, Stop};
-use mt_free::push;
 use mt_slots::{Decl, ForStart, Function, Stmt};
 use mt_syntax as syntax;
 use mt_syntax::{Mark, StmtKind};
-use mt_tree::{Boxed, NoMemory, Row};
+use mt_tree::{Boxed, NoMemory, Row, push};
 
 #[cycle(resolving)]
 fn stmt(

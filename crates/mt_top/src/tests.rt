@@ -2,7 +2,7 @@ ghost use Rattle.std.specs.Prelude.{◌≡◌, ◌<◌};
 
 use super::*;
 use mt_outside::{Alteration, ClosedDoor, FileEntry, MemoryFiles, MemorySink, MemoryWire, Slot};
-use mt_tree::{Buffer, NoMemory, Text};
+use mt_tree::{Buffer, NoMemory, Text, push};
 use std::alloc::Global;
 use std::test::Fail;
 
@@ -80,13 +80,6 @@ const NONE: Trouble = Trouble {
 struct Ended {
     status: Status,
     output: Vec<u8>,
-}
-
-fn push<T: Drop>(list: &mut Vec<T>, item: T) -> Result<(), NoMemory> {
-    match list.push(item) {
-        Ok(()) => Ok(()),
-        Err(_refused) => Err(NoMemory),
-    }
 }
 
 fn entry(alloc: Global, name: &str, bytes: &[u8]) -> Result<FileEntry, NoMemory> {

@@ -107,6 +107,9 @@ fn buffers(rt: HostRuntime) -> Result<(), Fail> {
     assert!(rt; buffer.items() == [3, 2].as_slice());
     assert!(rt; buffer.pop() == Some(2));
     assert!(rt; Buffer::from_vec(Vec::from_array(rt.alloc(), [4])?).items() == [4].as_slice());
+    let mut list = Vec::new(rt.alloc());
+    push(&mut list, 5u8)?;
+    assert!(rt; list.as_slice() == [5].as_slice());
     Ok(())
 }
 

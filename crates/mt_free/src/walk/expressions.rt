@@ -5,13 +5,12 @@ ghost use Rattle.mt_free.specs.Tildes.{names_at};
 ghost use Rattle.mt_syntax.specs.Fold.{on_expr, on_expr_kind, on_function, on_prop};
 ghost use Rattle.mt_syntax.specs.Gathering.{all_of, or_none};
 
-use crate::list::push;
 use crate::names::{names_of, push_name};
 use crate::used::Used;
 use crate::walk::markup::markup;
 use crate::walk::statements::stmts;
 use mt_syntax::{Expr, ExprKind, Function, Prop};
-use mt_tree::{NoMemory, Row, Text};
+use mt_tree::{NoMemory, Row, Text, push};
 use std::alloc::Global;
 
 #[cycle(walk)]

@@ -5,11 +5,10 @@ ghost use Rattle.mt_free.specs.Tildes.{names_at};
 ghost use Rattle.mt_syntax.specs.Fold.{on_markup, on_markup_attribute, on_markup_child, on_markup_value};
 ghost use Rattle.mt_syntax.specs.Gathering.{all_of};
 
-use crate::list::push;
 use crate::used::Used;
 use crate::walk::expressions::expr;
 use mt_syntax::{Markup, MarkupAttribute, MarkupChild, MarkupValue};
-use mt_tree::{NoMemory, Row, Text};
+use mt_tree::{NoMemory, Row, Text, push};
 use std::alloc::Global;
 
 #[cycle(walk)]

@@ -5,11 +5,10 @@ ghost use Rattle.mt_free.specs.Tildes.{names_at};
 ghost use Rattle.mt_syntax.specs.Fold.{on_decl, on_for_start, on_stmt, on_stmt_kind};
 ghost use Rattle.mt_syntax.specs.Gathering.{all_of, or_none};
 
-use crate::list::push;
 use crate::used::Used;
 use crate::walk::expressions::{expr, function, optional_expr};
 use mt_syntax::{Decl, ForStart, Stmt, StmtKind};
-use mt_tree::{Boxed, NoMemory, Row, Text};
+use mt_tree::{Boxed, NoMemory, Row, Text, push};
 use std::alloc::Global;
 
 #[cycle(walk)]

@@ -12,7 +12,7 @@ returns-in_err-take_first g c =
 
 pub loop-preserved : goal.loop-preserved
 loop-preserved g c =
-    rw c.in_ok-push.ensures (goes_on g.T.Item.taken c.loop.made.items c.args.count c.loop.counter (into_iter_items c.loop.parts) _ _ (firsts g.T.Item.taken c.args.count (into_iter_items c.args.parts.now)) c.loop-test.true c.in_ok-take_first.ensures c.loop.invariant)
+    rw c.in_ok-push.ensures.ok (goes_on g.T.Item.taken c.loop.made.items c.args.count c.loop.counter (into_iter_items c.loop.parts) _ _ (firsts g.T.Item.taken c.args.count (into_iter_items c.args.parts.now)) c.loop-test.true c.in_ok-take_first.ensures c.loop.invariant)
 
 pub returns : goal.returns
 returns g c =

@@ -1,6 +1,6 @@
 ghost use Rattle.std.specs.Prelude.{◌≡◌, ◌++◌, ◌∷◌, [], OnErr, OnOk};
 
-use mt_tree::NoMemory;
+use crate::fault::NoMemory;
 
 /// Puts the item behind the others.
 ///
