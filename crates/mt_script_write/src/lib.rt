@@ -2,8 +2,7 @@
 //!
 //! [`write_code`] appends exactly the text that `CodeText` among the definitions of `mt_syntax` gives to the code that
 //! `substitute` makes, and makes no such code itself: a value is written where its dollar stands, as a literal of its tagged
-//! JSON, so that no character of it is read as code. [`code_text`] writes code itself, by the same functions. What stood in the list
-//! before stays in front.
+//! JSON. [`code_text`] writes code itself, by the same functions. What stood in the list before stays in front.
 //!
 //! The writer of pages and the reader of code stand on this crate.
 #![tactic(auto)]
