@@ -1,8 +1,8 @@
 use super::*;
-use MarshalRule::{M2, M4, M5, M6};
+use MarshalRule::{M1, M2, M3, M4, M5, M6};
 use mt_data_cells::nodes;
 use mt_tree::{Buffer, Data, Html, NoMemory, Row, Text};
-use mt_value::{Cell, Property, Store, Value};
+use mt_value::{Cell, Native, Property, Store, Value};
 use std::alloc::Global;
 use std::test::Fail;
 
@@ -15,8 +15,12 @@ enum Given {
     Letters(u32),
     /// So many arrays in one another.
     Nested(u32),
+    /// A builtin.
+    Builtin,
     /// An HTML value.
     Html,
+    /// An event of the client.
+    Event,
     /// An array that is its own item.
     Cycle,
     /// An array whose two items are one array of one number.
@@ -34,14 +38,16 @@ enum Expected {
     Rule(MarshalRule, u64, u64),
 }
 
-const ROWS: [(Given, Expected); 10] = [
+const ROWS: [(Given, Expected); 12] = [
     (Given::Numbers(19_999), Expected::Nodes(20_000)),
     (Given::Numbers(20_000), Expected::Rule(M5, 20_001, 0)),
     (Given::Letters(262_144), Expected::Nodes(1)),
     (Given::Letters(262_145), Expected::Rule(M6, 1, 262_145)),
     (Given::Nested(40), Expected::Nodes(40)),
     (Given::Nested(41), Expected::Rule(M5, 41, 0)),
+    (Given::Builtin, Expected::Rule(M1, 1, 0)),
     (Given::Html, Expected::Rule(M2, 1, 0)),
+    (Given::Event, Expected::Rule(M3, 1, 0)),
     (Given::Cycle, Expected::Rule(M4, 2, 0)),
     (Given::Shared, Expected::Nodes(5)),
     (Given::Object, Expected::Nodes(3)),
@@ -117,6 +123,8 @@ fn made(alloc: Global, store: &mut Store, given: Given) -> Result<Value, NoMemor
         Given::Html => Ok(Value::Html(store.add(Cell::Html(Html::Text(Text::from_str(
             alloc, "a",
         )?)))?)),
+        Given::Builtin => Ok(Value::Native(Native::String)),
+        Given::Event => Ok(Value::Event(0)),
         Given::Cycle => cycle(alloc, store),
         Given::Shared => shared(alloc, store),
         Given::Object => object(alloc, store),
