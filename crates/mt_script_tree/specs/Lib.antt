@@ -1,0 +1,5 @@
+pub mod Expressions
+pub mod Lists
+pub mod Made
+pub mod Reading
+pub mod Statements
