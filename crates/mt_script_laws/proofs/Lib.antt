@@ -1,0 +1,16 @@
+pub mod Bodies
+pub mod Chained
+pub mod Clauses
+pub mod Ends
+pub mod Facts
+pub mod Found
+pub mod FoundExpressions
+pub mod FoundStatements
+pub mod Goodness
+pub mod Heads
+pub mod Induction
+pub mod Items
+pub mod Limits
+pub mod Marks
+pub mod Operations
+pub mod Read
