@@ -113,7 +113,7 @@ fn arguments_are_read_and_written_again(rt: HostRuntime) -> Result<(), Fail> {
     }
     assert!(rt;
         matches!(
-            read_arguments(rt.alloc(), b"(1)"),
+            read_arguments(rt.alloc(), b"{\"u\":0}"),
             Err(DataRefusal::NotData)
         )
     );

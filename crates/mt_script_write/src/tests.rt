@@ -49,8 +49,9 @@ fn texts(alloc: Global, value: &str) -> Result<(Vec<u8>, Vec<u8>), NoMemory> {
 
 #[test]
 fn a_value_is_written_as_a_literal(rt: HostRuntime) -> Result<(), Fail> {
-    let expected: &[u8] = b"alert((1 < $v(\"\\\"\\u003c/script\\u003e\\u2028\\\\\\\"\\\"\")));";
-    let texts = texts(rt.alloc(), "</script>\u{2028}\"");
+    let expected: &[u8] =
+        "alert((1 < $v(\"\\\"\\u003c/script\\u003e\\u003c!--]]\\u003e\\u0026\\u2028\u{1f600}\\\\u0000'\\\\\\\"\\\"\")));".as_bytes();
+    let texts = texts(rt.alloc(), "</script><!--]]>&\u{2028}\u{1f600}\u{0}'\"");
     assert!(rt; texts.is_ok());
     if let Ok((written, again)) = texts {
         assert_eq!(rt; written.as_slice(), expected);
