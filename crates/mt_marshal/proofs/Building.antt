@@ -36,7 +36,7 @@ Builds L b = (store : List Cell) → Lawful store → Stays L store (b store)
 plain_stays : {A : Type 0} (L : List Cell → A → Type 0) (a : A) → ((store : List Cell) → L store a) → Builds L (built_plain a)
 plain_stays L a h store lawful = record { keeps = λ kind at named. named; lawful = lawful; value = h store }
 
-names_last : (store : List Cell) (c : Cell) → Names (store ++ c ∷ []) (kind_of c) (length store)
+pub names_last : (store : List Cell) (c : Cell) → Names (store ++ c ∷ []) (kind_of c) (length store)
 names_last [] c = refl
 names_last (first ∷ store) c = names_last store c
 

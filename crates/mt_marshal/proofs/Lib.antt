@@ -1,6 +1,8 @@
 pub mod Building
 mod Chains
+pub mod Elaborating
 mod Levels
 mod Measures
 mod Names
 mod Parts
+mod Seen

@@ -355,8 +355,11 @@ all_from_test (d ∷ ds) h =
     let parts = and_parts (data_fits d) (list_all data_fits ds) h in
     All-cons (λ (d : Data). IsTrue (data_fits d)) d ds parts.0 (all_from_test ds parts.1)
 
+pub all_fit : (store : List Cell) (vs : List Value) (ds : List Data) → snap store vs ≡ Ok ds → Lawful store → All (LawfulValue store) vs → list_all data_fits ds ≡ true
+all_fit store vs ds is = (given store vs ds is).1.fits
+
 data_fit : (store : List Cell) (vs : List Value) (ds : List Data) → snap store vs ≡ Ok ds → Lawful store → All (LawfulValue store) vs → All (λ d. IsTrue (data_fits d)) ds
-data_fit store vs ds is lawful values = let found = given store vs ds is in all_from_test ds (found.1.fits lawful values)
+data_fit store vs ds is lawful values = all_from_test ds (all_fit store vs ds is lawful values)
 
 within_limits : (store : List Cell) (vs : List Value) (ds : List Data) → snap store vs ≡ Ok ds → list_all has_characters ds ≡ true → Lawful store → All (LawfulValue store) vs → AreWithinLimits ds
 within_limits store vs ds is texts lawful values =

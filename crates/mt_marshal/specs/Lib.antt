@@ -1,4 +1,5 @@
 pub mod Characters
+pub mod Elaboration
 pub mod Lawful
 pub mod Rules
 pub mod Snapshot

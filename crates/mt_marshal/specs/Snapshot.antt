@@ -86,5 +86,9 @@ data_alone (Err e) = Err e
 abbrev pub nothing : Counts
 nothing = record { nodes = 0; bytes = 0 }
 
+-- the data of the values, with what was counted
+abbrev pub walked : List Cell → List Value → Result (List Data × Counts) Refused
+walked store values = all (map (datum store 40 []) values) nothing
+
 unfoldable pub snap : List Cell → List Value → Result (List Data) Refused
-snap store values = data_alone (all (map (datum store 40 []) values) nothing)
+snap store values = data_alone (walked store values)

@@ -2,17 +2,20 @@
 //!
 //! [`snapshot`] walks the values depth first and gives their data, or the first broken rule with what was counted up to it, as
 //! `specs/Snapshot.antt` says. The data hold no address, so that a later change of a cell isn't seen in them. [`build`] is the way back:
-//! fresh cells for data. The hosts of the server and of the client stand on this crate.
+//! fresh cells for data. [`elaborate`] makes client code of a tilde and of the data of its dollars' values. The hosts of the server and
+//! of the client stand on this crate.
 #![tactic(auto)]
 
 mod cells;
 mod counts;
+mod elaboration;
 mod laws;
 mod node;
 mod refusal;
 mod rule;
 mod walk;
 
+pub use elaboration::elaborate;
 pub use laws::built_data_are_lawful;
 pub use mt_data_cells::build;
 pub use refusal::Refused;

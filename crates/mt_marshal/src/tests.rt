@@ -1,6 +1,7 @@
 use super::*;
 use MarshalRule::{M1, M2, M3, M4, M5, M6};
 use mt_data_cells::nodes;
+use mt_evaluation::{Budget, Done, Stop};
 use mt_tree::{Buffer, Data, Html, NoMemory, Row, Text};
 use mt_value::{Cell, Native, Property, Store, Value};
 use std::alloc::Global;
@@ -159,6 +160,65 @@ fn snapshots(rt: HostRuntime) -> Result<(), Fail> {
         values.push(made(rt.alloc(), &mut store, *given)?)?;
         let answer = snapshot(rt.alloc(), &store, values.items());
         assert!(rt; meets(&answer, *expected));
+    }
+    Ok(())
+}
+
+/// How an elaboration is to end.
+#[derive(Clone, Copy)]
+enum Ended {
+    /// Client code of one array of one number.
+    Code,
+    /// A stop.
+    Stop(Stop),
+}
+
+// What is given, the steps that are left before, how it ends, and the steps that are left after.
+const ELABORATIONS: [(Given, u64, Ended, u64); 6] = [
+    (Given::Numbers(1), 10, Ended::Code, 8),
+    (Given::Numbers(1), 2, Ended::Code, 0),
+    (Given::Numbers(1), 1, Ended::Stop(Stop::Budget), 1),
+    (Given::Builtin, 10, Ended::Stop(Stop::Marshal(1)), 9),
+    (Given::Builtin, 0, Ended::Stop(Stop::Budget), 0),
+    (
+        Given::Letters(262_145),
+        2_000,
+        Ended::Stop(Stop::Marshal(6)),
+        975,
+    ),
+];
+
+fn is_code(store: &Store, value: &Value) -> bool {
+    match value {
+        Value::Code(at) => match store.get(*at) {
+            Some(Cell::Code(code)) => match code.values.items() {
+                [Data::Arr(items)] => code.tilde == 7 && matches!(items.items(), [Data::Num(1)]),
+                _ => false,
+            },
+            _ => false,
+        },
+        _ => false,
+    }
+}
+
+fn ends(store: &Store, done: &Done, expected: Ended) -> bool {
+    match (done, expected) {
+        (Done::Value(value), Ended::Code) => is_code(store, value),
+        (Done::Stop(stop), Ended::Stop(wanted)) => *stop == wanted,
+        _ => false,
+    }
+}
+
+#[test]
+fn elaborations(rt: HostRuntime) -> Result<(), Fail> {
+    for (given, steps, expected, left) in &ELABORATIONS {
+        let mut store = Store::new(rt.alloc());
+        let mut budget = Budget { left: *steps };
+        let mut values = Buffer::new(rt.alloc());
+        values.push(made(rt.alloc(), &mut store, *given)?)?;
+        let done = elaborate(rt.alloc(), 7, values.items(), &mut store, &mut budget)?;
+        assert!(rt; ends(&store, &done, *expected));
+        assert_eq!(rt; budget.left, *left);
     }
     Ok(())
 }

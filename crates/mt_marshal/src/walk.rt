@@ -20,7 +20,7 @@ use mt_value::{Address, Property, Store, Value};
 use std::alloc::Global;
 
 /// How many arrays and objects may stand in one another.
-const LEVELS: u32 = 40;
+pub(crate) const LEVELS: u32 = 40;
 
 /// A text that shares the contents, with the fact that it holds characters.
 fn shared(text: &Text) -> Result<Text, NoMemory>
@@ -96,7 +96,7 @@ fn array(
 
 #[cycle(walk)]
 #[tactic(auto, using(crate::proofs::Parts::all_and_one))]
-fn items(
+pub(crate) fn items(
     alloc: Global,
     store: &Store,
     levels: u32,
