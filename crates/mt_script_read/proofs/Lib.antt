@@ -1,0 +1,5 @@
+pub mod Accepted
+pub mod Exact
+pub mod Tildes
+pub mod Turns
+pub mod Walked

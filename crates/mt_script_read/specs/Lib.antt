@@ -1,0 +1,3 @@
+pub mod Differing
+pub mod Reads
+pub mod Walking

@@ -1,0 +1,25 @@
+//! The text of client code, read exactly.
+//!
+//! [`read_code`] gives the code whose text the bytes are, and refuses bytes that are no text of code within the limits: a space
+//! more, another escape of the same character or a value whose tagged JSON stands bare in `$v(..)` is refused.
+//!
+//! `mt_script_tree` finds the one code that the bytes can be the text of, without recursion deeper than the limit; what it
+//! finds is tested against the limits, written again by `mt_script_write`, and compared with the bytes. So all that is owed of what
+//! finds the code is that it finds the code of each text that was written, and nothing that has not the form of code.
+//!
+//! `Reads` in `specs` says which code is read from bytes, and `Walking` which values are met on a walk over a tree that is not too
+//! deep. The laws say that no two codes have one text, and that the code that is read from the text of a tilde of an accepted
+//! program has just the data that were put in, each in its dollar's place, whatever characters they hold. The reader of pages
+//! stands on this crate.
+#![tactic(auto)]
+
+mod laws;
+mod reading;
+mod walk;
+
+pub use laws::{one_text_for_each_code, only_values_differ, values_are_read_as_values};
+pub use mt_script_words::CodeRefusal;
+pub use reading::read_code;
+
+#[cfg(test)]
+mod tests;

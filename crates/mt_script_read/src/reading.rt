@@ -1,0 +1,83 @@
+ghost use Rattle.std.specs.Prelude.{◌≡◌, ◌↔◌, [], List, IsTrue, IfOk, true};
+ghost use Rattle.std.specs.List.{list_all};
+ghost use Rattle.mt_tree.specs.declared.data.Data.{Data};
+ghost use Rattle.mt_syntax.specs.Data.{is_data};
+ghost use Rattle.mt_syntax.specs.DataLimits.{AreWithinLimits};
+ghost use Rattle.mt_syntax.specs.declared.tree.Stmt.{Stmt};
+ghost use Rattle.mt_placement.specs.Placement.{misplaced_jumps};
+ghost use Rattle.mt_declared.specs.Twice.{twice_in_client};
+ghost use Rattle.mt_script_words.specs.declared.refusal.CodeRefusal.TheVariants as refusal;
+ghost use Rattle.mt_script_read.specs.Reads.{Reads};
+
+use crate::walk::stmts;
+use mt_json::{DataRefusal, read_arguments};
+use mt_json_write::arguments_text;
+use mt_script_tree::read_statements;
+use mt_script_words::CodeRefusal;
+use mt_script_write::code_text;
+use mt_stage::fits_client;
+use mt_syntax::Code;
+use mt_tree::{Data, Row};
+use std::alloc::Global;
+
+// How deep code nests.
+const DEPTH: u32 = 60;
+
+// Whether data are within the limits as one list: the reader of lists of data knows.
+fn are_within_limits(alloc: Global, values: &Row<Data>) -> Result<bool, CodeRefusal>
+    requires { list_all is_data values.now ≡ true }
+    ensures fits { IfOk result (λ fit. IsTrue fit ↔ AreWithinLimits values.now) }
+    ensures refused { result ≡ Err refusal.NotCode → ⊥ }
+{
+    let mut text = Vec::new(alloc);
+    arguments_text(alloc, values, &mut text)?;
+    match read_arguments(alloc, text.as_slice()) {
+        Ok(_values) => Ok(true),
+        Err(DataRefusal::NotData) => Ok(false),
+        Err(DataRefusal::NoMemory) => Err(CodeRefusal::NoMemory),
+    }
+}
+
+// Whether code with these values keeps the limits that what finds the code doesn't keep.
+fn is_within_limits(alloc: Global, code: &Code, values: &Row<Data>) -> Result<bool, CodeRefusal>
+    requires { list_all is_data values.now ≡ true }
+    ensures fits { IfOk result (λ fit. IsTrue fit ↔ (AreWithinLimits values.now × ((misplaced_jumps code.now.body ≡ []) × (twice_in_client code.now.body ≡ [])))) }
+    ensures refused { result ≡ Err refusal.NotCode → ⊥ }
+{
+    let small = are_within_limits(alloc, values)?;
+    Ok(small && fits_client(code))
+}
+
+fn is_same(a: &[u8], b: &[u8]) -> bool
+    ensures { IsTrue result ↔ (a.now ≡ b.now) }
+{
+    a == b
+}
+
+/// The code whose text the bytes are. It is at most 60 deep, no name is declared twice in one scope and each jump stands where
+/// it may, no text of it has more than 1,048,576 units of UTF-16, and its values are within the limits of one list of data: 40 deep
+/// each, 20,000 nodes and 262,144 bytes together. Takes no more than 60 levels of recursion to read, whatever the bytes are; a tree
+/// that is found and is too deep has less than 2,000 levels when it is let go.
+///
+/// # Errors
+/// `NotCode` exactly where no code within these limits has this text; `NoMemory`.
+pub fn read_code(alloc: Global, bytes: &[u8]) -> Result<Code, CodeRefusal>
+    ensures read { IfOk result (λ code. Reads bytes.now code.body) }
+    ensures refused { result ≡ Err refusal.NotCode → (body : List Stmt) → ¬ Reads bytes.now body }
+{
+    let body = read_statements(alloc, DEPTH, bytes)?;
+    let mut values = Vec::new(alloc);
+    stmts(body.items(), DEPTH, &mut values)?;
+    let code = Code { body };
+    let mut text = Vec::new(alloc);
+    code_text(alloc, &code, &mut text)?;
+    if !is_same(text.as_slice(), bytes) {
+        return Err(CodeRefusal::NotCode);
+    }
+    let values = Row::from_vec(alloc, values)?;
+    let within = is_within_limits(alloc, &code, &values)?;
+    if !within {
+        return Err(CodeRefusal::NotCode);
+    }
+    Ok(code)
+}
