@@ -7,10 +7,10 @@
 //! finds is tested against the limits, written again by `mt_script_write`, and compared with the bytes. So all that is owed of what
 //! finds the code is that it finds the code of each text that was written, and nothing that has not the form of code.
 //!
-//! `Reads` in `specs` says which code is read from bytes, and `Walking` which values are met on a walk over a tree that is not too
-//! deep. The laws say that no two codes have one text, and that the code that is read from the text of a tilde of an accepted
-//! program has just the data that were put in, each in its dollar's place, whatever characters they hold. The reader of pages
-//! stands on this crate.
+//! `Reads` in `specs` says which code is read from bytes, `Walking` which values are met on a walk over a tree that is not too
+//! deep, and `Differing` which lists of data differ in one place alone. The laws say that no two codes have one text, and that the
+//! code that is read from the text of a tilde of an accepted program has just the data that were put in, each in its dollar's
+//! place, whatever characters they hold. The reader of pages stands on this crate.
 #![tactic(auto)]
 
 mod laws;

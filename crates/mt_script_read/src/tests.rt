@@ -92,19 +92,26 @@ fn code_is_read_up_to_its_depth(rt: HostRuntime) -> Result<(), Fail> {
     Ok(())
 }
 
-// Whether 16,384 of the byte are refused.
-fn are_refused(alloc: Global, b: u8) -> Result<bool, CodeRefusal> {
+// Whether so many of the byte are refused.
+fn are_refused(alloc: Global, count: u32, b: u8) -> Result<bool, CodeRefusal> {
     let mut text = Vec::new(alloc);
-    for _ in 0..16_384 {
+    for _ in 0..count {
         text.push(b)?;
     }
     Ok(matches!(read_code(alloc, text.as_slice()), Err(CodeRefusal::NotCode)))
 }
 
+// Brackets end at the depth; three quotes are taken for a statement, and no text has them.
 #[test]
 fn hostile_bytes_are_refused(rt: HostRuntime) -> Result<(), Fail> {
-    for b in [b'(', b'[', b'{', b'"'] {
-        assert!(rt; matches!(are_refused(rt.alloc(), b), Ok(true)));
+    let cases = [
+        (4_194_304, b'('),
+        (4_194_304, b'['),
+        (4_194_304, b'{'),
+        (65_536, b'"'),
+    ];
+    for (count, b) in cases {
+        assert!(rt; matches!(are_refused(rt.alloc(), count, b), Ok(true)));
     }
     Ok(())
 }
