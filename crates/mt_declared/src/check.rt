@@ -40,6 +40,17 @@ pub fn declares_once(body: &Row<Stmt>) -> bool
     }
 }
 
+/// What [`declares_once`] answers, with memory for a table of the names of a scope: takes time in proportion to the code's size.
+///
+/// # Errors
+/// `NoMemory`.
+pub fn declares_once_by_table(alloc: Global, body: &Row<Stmt>) -> Result<bool, NoMemory>
+    ensures { IfOk result (λ once. IsTrue once ↔ (twice_in_client body.now ≡ [])) }
+{
+    let found = client(&ByTable { alloc }, body)?;
+    Ok(found.is_none())
+}
+
 fn file(alloc: Global, items: &Row<Stmt>) -> Result<Option<Broken>, NoMemory>
     ensures { IfOk result (λ found. found ≡ first_of (twice_at_top (declared_in_file items.now))) }
 {

@@ -10,12 +10,13 @@ ghost use Rattle.mt_script_words.specs.declared.refusal.CodeRefusal.TheVariants 
 ghost use Rattle.mt_script_read.specs.Reads.{Reads};
 
 use crate::walk::stmts;
+use mt_declared::declares_once_by_table;
 use mt_json::{DataRefusal, read_arguments};
 use mt_json_write::arguments_text;
+use mt_placement::jumps_fit;
 use mt_script_tree::read_statements;
 use mt_script_words::CodeRefusal;
 use mt_script_write::code_text;
-use mt_stage::fits_client;
 use mt_syntax::Code;
 use mt_tree::{Data, Row};
 use std::alloc::Global;
@@ -45,7 +46,10 @@ fn is_within_limits(alloc: Global, code: &Code, values: &Row<Data>) -> Result<bo
     ensures refused { result ≡ Err refusal.NotCode → ⊥ }
 {
     let small = are_within_limits(alloc, values)?;
-    Ok(small && fits_client(code))
+    if !small || !jumps_fit(&code.body) {
+        return Ok(false);
+    }
+    Ok(declares_once_by_table(alloc, &code.body)?)
 }
 
 fn is_same(a: &[u8], b: &[u8]) -> bool
@@ -56,8 +60,8 @@ fn is_same(a: &[u8], b: &[u8]) -> bool
 
 /// The code whose text the bytes are. It is at most 60 deep, no name is declared twice in one scope and each jump stands where
 /// it may, no text of it has more than 1,048,576 units of UTF-16, and its values are within the limits of one list of data: 40 deep
-/// each, 20,000 nodes and 262,144 bytes together. Takes no more than 60 levels of recursion to read, whatever the bytes are; a tree
-/// that is found and is too deep has less than 2,000 levels when it is let go.
+/// each, 20,000 nodes and 262,144 bytes together. Takes time in proportion to the number of bytes, and no more than 60 levels of
+/// recursion to read, whatever the bytes are; a tree that is found and is too deep has less than 2,000 levels when it is let go.
 ///
 /// # Errors
 /// `NotCode` exactly where no code within these limits has this text; `NoMemory`.
