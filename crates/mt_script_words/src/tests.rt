@@ -4,7 +4,7 @@ use mt_tree::Data;
 use std::test::Fail;
 
 #[test]
-fn words_are_found(rt: HostRuntime) -> Result<(), Fail> {
+fn keywords_are_found(rt: HostRuntime) -> Result<(), Fail> {
     let keywords = [
         ("var", Keyword::Declare(VarKind::Var)),
         ("let", Keyword::Declare(VarKind::Let)),
@@ -24,6 +24,11 @@ fn words_are_found(rt: HostRuntime) -> Result<(), Fail> {
     for (text, expected) in keywords {
         assert_eq!(rt; find_keyword(text.as_bytes()), expected, "{text}");
     }
+    Ok(())
+}
+
+#[test]
+fn leaders_are_found(rt: HostRuntime) -> Result<(), Fail> {
     let leaders = [
         ("true", Leader::Truth(true)),
         ("false", Leader::Truth(false)),
@@ -37,6 +42,11 @@ fn words_are_found(rt: HostRuntime) -> Result<(), Fail> {
     for (text, expected) in leaders {
         assert_eq!(rt; find_leader(text.as_bytes()), expected, "{text}");
     }
+    Ok(())
+}
+
+#[test]
+fn words_are_cut(rt: HostRuntime) -> Result<(), Fail> {
     assert_eq!(rt; word("é_1(2)".as_bytes()), "é_1".as_bytes());
     assert_eq!(rt; after_word("é_1(2)".as_bytes()), b"(2)".as_slice());
     assert_eq!(rt; past_comma(b",a"), b"a".as_slice());
