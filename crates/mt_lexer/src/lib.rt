@@ -14,6 +14,7 @@
 mod character;
 mod children;
 mod code;
+mod escape;
 mod lexer;
 mod mode;
 mod part;
@@ -28,6 +29,7 @@ mod text;
 mod token;
 mod word;
 
+pub use escape::{hex_more, is_character, is_hex, is_high, is_low, is_simple_escape};
 pub use reading::lex;
 pub use refusal::LexRefusal;
 pub use token::{Kind, Token, Tokens};

@@ -6,13 +6,11 @@ ghost use Rattle.mt_lexer.specs.Machine as machine;
 ghost use Rattle.mt_lexer.specs.Steps.{Steps, Flows};
 
 use crate::character::{Class, SourceChar};
+use crate::escape::{hex_more, is_character, is_hex, is_high, is_low, is_simple_escape};
 use crate::lexer::{Flow, Lexer, Step};
 use crate::mode::{Before, Fault};
 use crate::part::{OpenEscape, OpenText, Part};
 use crate::token::Kind;
-
-// One above the last character.
-const TOO_LARGE: u32 = 0x11_0000;
 
 impl Lexer<'_> {
     // A text is closed, or goes on.
@@ -156,57 +154,4 @@ impl OpenEscape {
             self.refused()
         }
     }
-}
-
-fn is_simple_escape(c: char) -> bool
-    ensures { result ≡ spelling.is_simple_escape c }
-{
-    matches!(
-        c,
-        '"' | '\'' | '/' | '\\' | 'b' | 'f' | 'n' | 'r' | 't' | 'v'
-    )
-}
-
-fn is_hex(c: char) -> bool
-    ensures { result ≡ spelling.is_hex c }
-{
-    matches!(c, '0'..='9' | 'A'..='F' | 'a'..='f')
-}
-
-fn hex_value(c: char) -> u32
-    ensures value { result ≡ spelling.hex_value c }
-{
-    let code = u32::from(c);
-    if c <= '9' {
-        code.saturating_sub(48)
-    } else if c <= 'F' {
-        code.saturating_sub(55)
-    } else {
-        code.saturating_sub(87)
-    }
-}
-
-// One digit more, where each number that is no character's stands as one above the last.
-fn hex_more(value: u32, digit: char) -> u32
-    ensures { result ≡ spelling.hex_more value digit }
-{
-    (value.min(TOO_LARGE) * 16 + hex_value(digit)).min(TOO_LARGE)
-}
-
-fn is_high(value: u32) -> bool
-    ensures { result ≡ spelling.is_high value }
-{
-    value >= 0xD800 && value <= 0xDBFF
-}
-
-fn is_low(value: u32) -> bool
-    ensures { result ≡ spelling.is_low value }
-{
-    value >= 0xDC00 && value <= 0xDFFF
-}
-
-fn is_character(value: u32) -> bool
-    ensures { result ≡ spelling.is_character value }
-{
-    value <= 0x10_FFFF && !(value >= 0xD800 && value <= 0xDFFF)
 }
