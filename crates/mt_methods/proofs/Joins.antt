@@ -1,49 +1,12 @@
--- The units of joined texts.
-use Rattle.std.proofs.Common.{◌≡◌, ℕ, suc, ◌+◌, ◌/◌, ◌%◌, ◌<◌, ◌≤◌, ◌^◌, true, false, ℤ, List, [], ◌∷◌, ◌++◌, length, get_or, take, append_assoc, refl, sym, ap, ◌∙◌, arith}
-use Rattle.std.specs.Prelude.{pos, negsuc}
-use Rattle.std.specs.Fmt.{decimal, signed_decimal}
+-- The units of joined texts, with one item more.
+use Rattle.std.proofs.Common.{◌≡◌, ℕ, ◌+◌, ◌<◌, ◌≤◌, List, [], ◌∷◌, ◌++◌, length, get_or, take, append_assoc, refl, sym, ap, ◌∙◌, arith}
 use Rattle.std.specs.List.{flat_map}
-use Rattle.std.specs.Str.{IsAscii}
-use Rattle.std.proofs.lemmas.Bool.Decides.{nat_tests}
-use Rattle.std.proofs.lemmas.Fmt.{decimal_digit, decimal_step, IsAscii-signed}
-use Rattle.std.proofs.lemmas.List.{flat_map_more, take_more, take_all, length-append}
-use lib.IntN.{nat_abs}
-use lib.Signed.{mag, lt_z}
+use Rattle.std.proofs.lemmas.List.{flat_map_more, take_more, take_all}
 use Rattle.mt_methods.specs.Costs.{counted}
 use Rattle.mt_methods.specs.Joining.{shown, joined}
-use Rattle.mt_tree.specs.Text.{units_in, units_of}
+use Rattle.mt_tree.specs.Text.{units_of}
 use Rattle.mt_units.proofs.Places.{units_of-append}
 use Rattle.mt_value.specs.declared.value.Value.{Value}
-
--- ---- numbers
-
-pub one_digit : (n : ℕ) → n < 10 → length (decimal n) ≡ 1
-one_digit n h = ap length (decimal_digit n h)
-
-pub digit_more : (n : ℕ) → 10 ≤ n → n < 2 ^ 64 → length (decimal n) ≡ length (decimal (n / 10)) + 1
-digit_more n h s = ap length (decimal_step n h s) ∙ length-append (decimal (n / 10)) ((48 + n % 10) ∷ [])
-
-ascii_units : (cs : List ℕ) → IsAscii cs → units_of cs ≡ length cs
-ascii_units [] h = refl
-ascii_units (c ∷ cs) h =
-    let one : units_in c ≡ 1 = (let small : c < 128 = h 0 in grind (arith, nat_tests, small)) in
-    omega (arith, one, ascii_units cs (λ i. h (suc i)))
-
-pub positive : (n : ℕ) → n < 2 ^ 63 → units_of (signed_decimal (pos n)) ≡ length (decimal n)
-positive n h = ascii_units (signed_decimal (pos n)) (IsAscii-signed (pos n) h)
-
-pub negative : (n : ℕ) → n < 2 ^ 63 → units_of (signed_decimal (negsuc n)) ≡ length (decimal (suc n)) + 1
-negative n h = let all = ascii_units (signed_decimal (negsuc n)) (IsAscii-signed (negsuc n) h) in omega arith
-
-pub below_zero : (n : ℤ) (k d : ℕ) → lt_z n (pos 0) ≡ true → mag n < 2 ^ 63 → k ≡ nat_abs n → d ≡ length (decimal k) → d + 1 ≡ units_of (signed_decimal n)
-below_zero (pos n) k d t h e is = absurd (grind (arith, nat_tests, t))
-below_zero (negsuc n) k d t h e is = ap (λ x. x + 1) (is ∙ ap (λ m. length (decimal m)) e) ∙ sym (negative n h)
-
-pub from_zero : (n : ℤ) (k d : ℕ) → lt_z n (pos 0) ≡ false → mag n < 2 ^ 63 → k ≡ nat_abs n → d ≡ length (decimal k) → d ≡ units_of (signed_decimal n)
-from_zero (pos n) k d f h e is = is ∙ ap (λ m. length (decimal m)) e ∙ sym (positive n h)
-from_zero (negsuc n) k d f h e is = absurd (let wrong : true ≡ false = f in cc)
-
--- ---- one item more
 
 module _ (separator : List ℕ) where
   abbrev pub rest_shown : List Value → List ℕ

@@ -1,5 +1,4 @@
-ghost use Rattle.std.specs.Prelude.{◌≡◌, ◌≤◌, ◌++◌, length, OnOk, IfOk};
-ghost use Rattle.std.specs.Fmt.{decimal, signed_decimal};
+ghost use Rattle.std.specs.Prelude.{◌≡◌, ◌++◌, OnOk, IfOk};
 ghost use Rattle.std.specs.List.{list_all};
 ghost use Rattle.std.specs.Option.{option_copied};
 ghost use Rattle.std.specs.Str.{chars};
@@ -12,6 +11,7 @@ ghost use Rattle.mt_tree.specs.Text.{units_of};
 use crate::name::{MethodName, bad_argument};
 use mt_ops::{ErrorKind, Refusal, join_text, push_text};
 use mt_tree::{NoMemory, Text};
+use mt_units::decimal_units;
 use mt_value::Value;
 use std::alloc::Global;
 
@@ -36,28 +36,6 @@ pub fn are_shown(items: &[Value]) -> bool
     ensures { result ≡ list_all spec.is_shown items.now }
 {
     items.iter().all(is_shown)
-}
-
-/// The number of decimal digits.
-fn digits(n: u64) -> u64
-    ensures number { result ≡ length (decimal n) }
-    ensures small { result ≤ 20 }
-{
-    let mut left = n;
-    let mut count = 1;
-    while left >= 10 {
-        left /= 10;
-        count += 1;
-    }
-    count
-}
-
-/// The units of a number in decimal form.
-fn decimal_units(n: i64) -> u64
-    ensures { result ≡ units_of (signed_decimal n) }
-{
-    let digits = digits(n.unsigned_abs());
-    if n < 0 { digits + 1 } else { digits }
 }
 
 /// The units of the text that stands for the value. Takes no memory.

@@ -1,46 +1,14 @@
 -- The units of short texts.
-use Rattle.std.proofs.Common.{◌≡◌, ◌≤◌, ◌<◌, ◌+◌, ◌/◌, ◌^◌, ℕ, suc, ℤ, pos, negsuc, List, [], ◌∷◌, length, refl, sym, ap, ◌∙◌, arith, nat_abs, true, false, Option, None, Some}
+use Rattle.std.proofs.Common.{◌≡◌, ◌+◌, ℕ, List, length, true, arith, Option, None, Some}
 use Rattle.std.specs.Option.{option_map}
-use lib.Signed.{lt_z}
 use Rattle.mt_ops.proofs.Texts.{ascii, units_joined as units_sum}
-use Rattle.std.specs.Fmt.{decimal, signed_decimal}
-use Rattle.std.specs.Str.{IsAscii}
-use Rattle.std.proofs.lemmas.Bool.Decides.{nat_tests}
-use Rattle.std.proofs.lemmas.Fmt.{decimal_digit, decimal_step, IsAscii-decimal, length-decimal-le}
-use Rattle.std.proofs.lemmas.List.{length_push}
 use Rattle.mt_ops.specs.Texts.{is_plain}
 use Rattle.mt_properties.specs.Costs.{joined_units}
-use Rattle.mt_tree.specs.Text.{units_in, units_of}
-
-units_ascii : (bs : List ℕ) → IsAscii bs → units_of bs ≡ length bs
-units_ascii [] h = refl
-units_ascii (b ∷ bs) h =
-    let first : b < 128 = h 0 in
-    let one : units_in b ≡ 1 = grind (arith, nat_tests, first) in
-    omega (arith, one, units_ascii bs (λ i. h (suc i)))
+use Rattle.mt_tree.specs.Text.{units_of}
+use Rattle.mt_units.proofs.Numbers.{units_ascii}
 
 pub units_plain : (bs : List ℕ) → is_plain bs ≡ true → units_of bs ≡ length bs
 units_plain bs plain = units_ascii bs (ascii bs plain)
-
-pub digits_one : (n : ℕ) → n < 10 → length (decimal n) ≡ 1
-digits_one n h = ap length (decimal_digit n h)
-
-pub digits_more : (n : ℕ) → 10 ≤ n → n < 2 ^ 64 → length (decimal n) ≡ length (decimal (n / 10)) + 1
-digits_more n low high = ap length (decimal_step n low high) ∙ length_push (decimal (n / 10)) _
-
-pub digits_few : (n : ℕ) → n < 2 ^ 64 → length (decimal n) ≤ 20
-digits_few n h = length-decimal-le 20 n (omega arith) (omega arith) h
-
-pub decimal_units : (n : ℕ) → n < 2 ^ 64 → units_of (decimal n) ≡ length (decimal n)
-decimal_units n h = units_ascii (decimal n) (IsAscii-decimal n h)
-
-pub units_negative : (z : ℤ) (n d : ℕ) → lt_z z (pos 0) ≡ true → n ≡ nat_abs z → n < 2 ^ 64 → d ≡ length (decimal n) → d + 1 ≡ units_of (signed_decimal z)
-units_negative (pos m) n d below is small e = absurd (grind (arith, nat_tests, below))
-units_negative (negsuc m) n d below is small e = let same : units_of (decimal n) ≡ units_of (decimal (suc m)) = ap (λ k. units_of (decimal k)) is in omega (arith, e, same, decimal_units n small)
-
-pub units_other : (z : ℤ) (n d : ℕ) → lt_z z (pos 0) ≡ false → n ≡ nat_abs z → n < 2 ^ 64 → d ≡ length (decimal n) → d ≡ units_of (signed_decimal z)
-units_other (pos m) n d above is small e = e ∙ sym (decimal_units n small) ∙ ap (λ k. units_of (decimal k)) is
-units_other (negsuc m) n d above is small e = absurd (cc)
 
 pub units_joined : (x y : Option (List ℕ)) (a b : ℕ) → Some a ≡ option_map units_of x → Some b ≡ option_map units_of y → a + b ≡ joined_units x y
 units_joined (Some x) (Some y) a b is it = let e : a ≡ units_of x = cc in let f : b ≡ units_of y = cc in omega (arith, e, f, units_sum x y)

@@ -1,5 +1,4 @@
-ghost use Rattle.std.specs.Prelude.{◌≡◌, ◌<◌, ◌||◌, ◌^◌, length, pos, IfSome};
-ghost use Rattle.std.specs.Fmt.{decimal, signed_decimal};
+ghost use Rattle.std.specs.Prelude.{◌≡◌, ◌<◌, ◌||◌, ◌^◌, IfSome};
 ghost use Rattle.std.specs.Option.{option_map};
 ghost use Rattle.mt_ops.specs.Operators as operators;
 ghost use Rattle.mt_ops.specs.Texts.{join_text};
@@ -9,6 +8,7 @@ ghost use Rattle.mt_tree.specs.Text.{units_of};
 use mt_ops::type_name;
 use mt_syntax::{Binary, Unary};
 use mt_tree::Text;
+use mt_units::decimal_units;
 use mt_value::Value;
 
 /// How many units of UTF-16 of a text that is made, compared or cut cost one step.
@@ -58,29 +58,6 @@ fn units(text: &Text) -> u64
 {
     let _bytes = text.as_str().len();
     text.units()
-}
-
-/// How many digits a number has.
-fn digits(n: u64) -> u64
-    ensures count { result ≡ length (decimal n) }
-    ensures small { result < 2 ^ 62 }
-{
-    let mut left = n;
-    let mut count = 1;
-    while left >= 10 {
-        left /= 10;
-        count += 1;
-    }
-    count
-}
-
-/// The units of a number in decimal form.
-fn decimal_units(n: i64) -> u64
-    ensures units { result ≡ units_of (signed_decimal n) }
-    ensures small { result < 2 ^ 63 }
-{
-    let digits = digits(n.unsigned_abs());
-    if n < 0 { digits + 1 } else { digits }
 }
 
 /// The units of what stands for a value in a text.

@@ -1,5 +1,5 @@
-//! Texts by units of UTF-16: the part of a text between two places, and the first place at which one text stands in
-//! another.
+//! Texts by units of UTF-16: the part of a text between two places, the first place at which one text stands in another, and the
+//! units of a number in decimal form.
 //!
 //! A text is a list of characters, but its places are those of the language, which counts units of UTF-16: a character up
 //! to U+FFFF is one unit, and each above it a pair of two. A place inside such a pair is no place between characters, so
@@ -9,10 +9,12 @@
 
 mod first_place;
 mod laws;
+mod number;
 mod part;
 
 pub use first_place::find;
 pub use laws::{cut_is_between, find_is_first};
+pub use number::decimal_units;
 pub use part::cut;
 
 #[cfg(test)]

@@ -53,3 +53,11 @@ fn places(rt: HostRuntime) -> Result<(), Fail> {
     }
     Ok(())
 }
+
+#[test]
+fn units_of_numbers(rt: HostRuntime) {
+    let cases: [(i64, u64); 5] = [(0, 1), (9, 1), (10, 2), (-10, 3), (i64::MIN, 20)];
+    for (number, units) in cases {
+        assert_eq!(rt; decimal_units(number), units);
+    }
+}
