@@ -21,9 +21,12 @@ mod rest;
 mod scalars;
 mod values;
 
+pub use digit::is_digit;
 pub use laws::{one_text_for_each_datum, one_text_for_each_list};
 pub use reading::{read_arguments, read_data};
 pub use refusal::DataRefusal;
+pub use rest::{past_comma, skip};
+pub use scalars::hexadecimal;
 
 #[cfg(test)]
 mod tests;

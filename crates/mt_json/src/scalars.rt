@@ -11,7 +11,8 @@ use std::str;
 // A number is read no further once it has reached this one, which is too large.
 const TOO_LARGE: u64 = 9_007_199_254_740_992;
 
-fn hexadecimal(b: u8) -> u8
+/// The value of a hexadecimal digit, in lower case; of another byte some number below 16.
+pub fn hexadecimal(b: u8) -> u8
     ensures value { result ≡ hex_value b }
     ensures bound { result < 16 }
 {

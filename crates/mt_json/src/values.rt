@@ -1,20 +1,11 @@
 ghost use Rattle.std.specs.Prelude.{◌≡◌, ◌∷◌, ◌-◌};
-ghost use Rattle.mt_json.specs.Reading.{Gives, entries_at, entries_by, entry_at, entry_step, item_step, items_at, items_by, past_comma, tagged_from, value, value_from};
+ghost use Rattle.mt_json.specs.Reading.{Gives, entries_at, entries_by, entry_at, entry_step, item_step, items_at, items_by, tagged_from, value, value_from};
 
 use crate::refusal::DataRefusal;
-use crate::rest::{first, skip};
+use crate::rest::{first, past_comma, skip};
 use crate::scalars::{number, text};
 use mt_tree::{Data, Entry, Row};
 use std::alloc::Global;
-
-fn past_comma(bytes: &[u8]) -> &[u8]
-    ensures { result.now ≡ past_comma bytes.now }
-{
-    match bytes {
-        [b',', rest @ ..] => rest,
-        _ => bytes,
-    }
-}
 
 #[cycle(read)]
 #[tactic(auto, using(crate::proofs::Depths::value_is))]

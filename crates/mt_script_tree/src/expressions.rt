@@ -1,5 +1,4 @@
 ghost use Rattle.std.specs.Prelude.{◌≡◌, ◌∷◌, ◌-◌, zero};
-ghost use Rattle.mt_syntax.specs.Data.{is_digit as is_decimal};
 ghost use Rattle.mt_script_words.specs.Outcome.{Gives};
 ghost use Rattle.mt_script_tree.specs.Expressions.{chain_at, constant_of, enclosed_at, enclosed_from, grown_at, grown_from, head_at, head_from, led_at, number_at, prop_at, value_at, word_at};
 ghost use Rattle.mt_script_tree.specs.Reading.{expr_at, stmt_at};
@@ -8,18 +7,12 @@ use crate::functions::function;
 use crate::lists::{exprs, props};
 use crate::made::expr_of;
 use crate::operations::{operation, signed, unary};
+use mt_json::{is_digit, skip};
 use mt_script_words::{
-    CodeRefusal, Leader, after_word, datum, find_leader, first, name, number, skip, string, text,
-    word,
+    CodeRefusal, Leader, after_word, datum, find_leader, first, name, number, string, text, word,
 };
 use mt_syntax::{Expr, ExprKind, Prop, StepKind, Unary};
 use std::alloc::Global;
-
-fn is_digit(b: u8) -> bool
-    ensures { result ≡ is_decimal b }
-{
-    b'0' <= b && b < b':'
-}
 
 fn value(alloc: Global, bytes: &[u8]) -> Result<(ExprKind, &[u8]), CodeRefusal>
     ensures { Gives (λ x. (x.0, x.1.now)) result (value_at bytes.now) }

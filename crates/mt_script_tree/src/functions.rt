@@ -6,7 +6,8 @@ ghost use Rattle.mt_script_tree.specs.Lists.{item_step, list_by};
 ghost use Rattle.mt_script_tree.specs.Reading.{stmt_at};
 
 use crate::lists::stmts;
-use mt_script_words::{CodeRefusal, first, mark, past_comma, skip};
+use mt_json::{past_comma, skip};
+use mt_script_words::{CodeRefusal, first, mark};
 use mt_syntax::{Function, Mark};
 use mt_tree::Row;
 use std::alloc::Global;

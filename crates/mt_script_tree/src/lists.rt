@@ -6,7 +6,8 @@ ghost use Rattle.mt_script_tree.specs.Statements.{decl_at};
 
 use crate::expressions::{expr, prop};
 use crate::statements::{decl, stmt};
-use mt_script_words::{CodeRefusal, first, past_comma};
+use mt_json::past_comma;
+use mt_script_words::{CodeRefusal, first};
 use mt_syntax::{Decl, Expr, Prop, Stmt};
 use mt_tree::Row;
 use std::alloc::Global;

@@ -4,7 +4,8 @@ ghost use Rattle.mt_script_tree.specs.Expressions.{assigned, behind_at, behind_f
 ghost use Rattle.mt_script_tree.specs.Reading.{expr_at};
 
 use crate::expressions::expr;
-use mt_script_words::{CodeRefusal, Operator, first, read_operator, skip};
+use mt_json::skip;
+use mt_script_words::{CodeRefusal, Operator, first, read_operator};
 use mt_syntax::{Binary, Expr, ExprKind, StepKind, Unary};
 use std::alloc::Global;
 

@@ -21,7 +21,7 @@ pub use literals::{string, text};
 pub use names::{mark, name};
 pub use operators::{Operator, read_operator};
 pub use refusal::CodeRefusal;
-pub use rest::{first, past_comma, skip};
+pub use rest::first;
 pub use values::{datum, number};
 pub use words::{after_word, word};
 

@@ -1,10 +1,10 @@
-ghost use Rattle.std.specs.Prelude.{◌≡◌, ◌<◌, ◌^◌, ◌++◌, OnOk};
-ghost use Rattle.mt_json.specs.Reading.{hex_value};
+ghost use Rattle.std.specs.Prelude.{◌≡◌, ◌++◌, OnOk};
 ghost use Rattle.mt_script_words.specs.Outcome.{Gives};
 ghost use Rattle.mt_script_words.specs.Literals.{code_of, escape_at, piece_at, piece_bytes, string_at, text_at};
 
 use crate::refusal::CodeRefusal;
 use crate::texts::short_text;
+use mt_json::hexadecimal;
 use mt_json_write::append;
 use mt_tree::{NoMemory, Text};
 use std::alloc::Global;
@@ -16,17 +16,6 @@ pub(crate) enum Piece {
     Byte(u8),
     /// The character of an escape.
     Character(char),
-}
-
-fn hexadecimal(b: u8) -> u8
-    ensures value { result ≡ hex_value b }
-    ensures bound { result < 16 }
-{
-    if b < 58 {
-        b.saturating_sub(48) % 16
-    } else {
-        b.saturating_sub(87) % 16
-    }
 }
 
 fn code(a: u8, b: u8, c: u8, d: u8) -> u32

@@ -2,7 +2,8 @@ ghost use Rattle.mt_script_words.specs.Outcome.{Gives};
 ghost use Rattle.mt_script_words.specs.Operators.{arithmetic, comparison, equals, operator_at, operator_from};
 
 use crate::refusal::CodeRefusal;
-use crate::rest::{first, skip};
+use crate::rest::first;
+use mt_json::skip;
 use mt_syntax::Binary;
 
 /// What stands between two operands.

@@ -49,10 +49,7 @@ fn leaders_are_found(rt: HostRuntime) -> Result<(), Fail> {
 fn words_are_cut(rt: HostRuntime) -> Result<(), Fail> {
     assert_eq!(rt; word("é_1(2)".as_bytes()), "é_1".as_bytes());
     assert_eq!(rt; after_word("é_1(2)".as_bytes()), b"(2)".as_slice());
-    assert_eq!(rt; past_comma(b",a"), b"a".as_slice());
-    assert_eq!(rt; past_comma(b"a,"), b"a,".as_slice());
     assert_eq!(rt; first(b"ab"), Ok((b'a', b"b".as_slice())));
-    assert_eq!(rt; skip(b"abc", 2), b"c".as_slice());
     assert!(rt; is_word(b"else", b"else"));
     Ok(())
 }

@@ -1,7 +1,7 @@
 ghost use Rattle.std.specs.Prelude.{◌≡◌, ◌≤◌, length};
 ghost use Rattle.mt_script_words.specs.Words.{after_word, is_word_byte, word_length, word_of};
 
-use crate::rest::skip;
+use mt_json::skip;
 
 fn is_word_byte(b: u8) -> bool
     ensures { result ≡ is_word_byte b }
