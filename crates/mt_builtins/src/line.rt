@@ -1,8 +1,8 @@
 ghost use Rattle.std.specs.Prelude.{◌≡◌, ◌++◌, OnOk};
 ghost use Rattle.mt_builtins.specs.Lines.{line};
 
-use mt_json_write::{append, json_text};
-use mt_tree::{NoMemory, Text};
+use mt_json::json_text;
+use mt_tree::{NoMemory, Text, append};
 
 /// Appends the line by which a builtin such as `log` writes a text: the word, a space, the JSON text of the text, and a line feed.
 ///

@@ -1,8 +1,8 @@
 -- What is counted of the places where a name is declared twice is counted of the list of all of them.
 use Rattle.std.proofs.Common.{◌≡◌, List, [], ◌∷◌, ◌++◌, map, None, ◌∙◌, refl}
-use Rattle.mt_rules.specs.First.{earlier_of, first_of}
-use Rattle.mt_rules.proofs.Order.{first_of_lists}
-use Rattle.mt_rules.specs.declared.broken.Broken.{Broken}
+use Rattle.mt_syntax.specs.First.{earlier_of, first_of}
+use Rattle.mt_syntax.proofs.Order.{first_of_lists}
+use Rattle.mt_syntax.specs.declared.broken.Broken.{Broken}
 use Rattle.mt_syntax.specs.Sort.{Sort}
 use Rattle.mt_syntax.specs.declared.tree.Mark.{Mark}
 use Rattle.mt_syntax.specs.Fold.{Every, StmtKindLayer, on_expr, on_stmt}

@@ -4,9 +4,9 @@ use Rattle.std.proofs.lemmas.Grind.{flat_map-append}
 use Rattle.std.proofs.lemmas.List.{append-nil, map-append}
 use Rattle.std.specs.Prelude.{if◌then◌else◌, is_some, option_map}
 use Rattle.std.specs.List.{list_any}
-use Rattle.mt_rules.specs.First.{first_of, earlier_of}
-use Rattle.mt_rules.proofs.Order.{first_of_lists}
-use Rattle.mt_rules.specs.declared.broken.Broken.{Broken}
+use Rattle.mt_syntax.specs.First.{first_of, earlier_of}
+use Rattle.mt_syntax.proofs.Order.{first_of_lists}
+use Rattle.mt_syntax.specs.declared.broken.Broken.{Broken}
 use Rattle.mt_syntax.specs.Fold.{on_decl}
 use Rattle.mt_syntax.specs.declared.tree.Decl.{Decl}
 use Rattle.mt_syntax.specs.declared.tree.Decl as decl

@@ -4,9 +4,9 @@ use Rattle.std.proofs.lemmas.List.{append-nil}
 use Rattle.std.proofs.lemmas.List.Folds.{list_any-append}
 use Rattle.std.specs.Prelude.{if◌then◌else◌, IsTrue, is_some, not}
 use Rattle.std.specs.List.{list_any}
-use Rattle.mt_rules.specs.First.{first_of, earlier_of}
-use Rattle.mt_rules.proofs.Order.{first_of_lists, grouping, none, order, repetition}
-use Rattle.mt_rules.specs.declared.broken.Broken.{Broken}
+use Rattle.mt_syntax.specs.First.{first_of, earlier_of}
+use Rattle.mt_syntax.proofs.Order.{first_of_lists, grouping, none, order, repetition}
+use Rattle.mt_syntax.specs.declared.broken.Broken.{Broken}
 use Rattle.mt_declared.specs.Repeated.{clash, repeated, repeated_behind, twice_at, where_clashing, where_holding}
 use Rattle.mt_declared.specs.declared.declaration.Declaration.{Declaration}
 

@@ -4,8 +4,8 @@ use Rattle.std.specs.Prelude.{if◌then◌else◌}
 use Rattle.std.specs.List.{list_any}
 use Rattle.std.proofs.lemmas.List.Folds.{list_any-append}
 use Rattle.std.proofs.lemmas.Slice.Eq.{bytes_eq-Decides}
-use Rattle.mt_rules.specs.First.{first_of, earlier_of}
-use Rattle.mt_rules.proofs.Order.{first_of_lists}
+use Rattle.mt_syntax.specs.First.{first_of, earlier_of}
+use Rattle.mt_syntax.proofs.Order.{first_of_lists}
 use Rattle.mt_declared.specs.Clashes.{all_kinds, has, no_kinds, with_kind, rivals}
 use Rattle.mt_declared.specs.Names.{is_same, Entries, kinds_of, assigned}
 use Rattle.mt_declared.specs.Repeated.{is_kind, clash, clashes_with, repeated, twice_at, where_clashing}

@@ -1,8 +1,8 @@
 -- The declarations of a scope whose names the scope has already.
 use Rattle.std.specs.Prelude.{Bool, true, false, ◌&&◌, if◌then◌else◌, List, [], ◌∷◌, ◌++◌, flat_map}
 use Rattle.std.specs.List.{list_any}
-use Rattle.mt_rules.specs.declared.broken.Broken.{Broken}
-use Rattle.mt_rules.specs.declared.rule.Rule.TheVariants as rule
+use Rattle.mt_syntax.specs.declared.broken.Broken.{Broken}
+use Rattle.mt_syntax.specs.declared.rule.Rule.TheVariants as rule
 use Rattle.mt_syntax.specs.declared.tree.Mark.{Mark}
 use Rattle.mt_declared.specs.Builtins.{is_builtin}
 use Rattle.mt_declared.specs.Clashes.{has, rivals}

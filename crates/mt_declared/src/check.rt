@@ -1,5 +1,5 @@
 ghost use Rattle.std.specs.Prelude.{◌≡◌, ◌↔◌, [], flat_map, IfOk, IsTrue};
-ghost use Rattle.mt_rules.specs.First.{first_of};
+ghost use Rattle.mt_syntax.specs.First.{first_of};
 ghost use Rattle.mt_declared.specs.Declarations.{declared_in_file, declared_in_tilde};
 ghost use Rattle.mt_declared.specs.Twice.{declared_twice, twice_at_top, twice_in_client, twice_in_row, twice_in_tilde};
 
@@ -9,8 +9,7 @@ use crate::names::declared_in_file;
 use crate::predicate::IsBuiltin;
 use crate::search::{ByComparison, ByTable, Search, first_repeated};
 use crate::walk::{exprs, stmts};
-use mt_rules::{Broken, earlier};
-use mt_syntax::{Program, Stmt, Tilde};
+use mt_syntax::{Broken, Program, Stmt, Tilde, earlier};
 use mt_tree::{NoMemory, Row};
 use std::alloc::Global;
 

@@ -2,7 +2,7 @@
 //! is made.
 
 ghost use Rattle.std.specs.Prelude.{◌≡◌, ◌∷◌, [], map, option_map};
-ghost use Rattle.mt_rules.specs.First.{first_of};
+ghost use Rattle.mt_syntax.specs.First.{first_of};
 ghost use Rattle.mt_syntax.specs.Fold.{on_decl, on_for_start, on_function, on_stmt_kind};
 ghost use Rattle.mt_declared.specs.Declarations.{declaration, declarations, declared, declaring, here_in, names_in, optional_variables, variables_in};
 ghost use Rattle.mt_declared.specs.Repeated.{where_holding};
@@ -10,8 +10,7 @@ ghost use Rattle.mt_declared.specs.Repeated.{where_holding};
 use crate::declaration::{Declaration, DeclarationKind};
 use crate::predicate::Predicate;
 use crate::repeated::twice_at;
-use mt_rules::{Broken, earlier};
-use mt_syntax::{Decl, ForStart, Function, Mark, Stmt, StmtKind, VarKind};
+use mt_syntax::{Broken, Decl, ForStart, Function, Mark, Stmt, StmtKind, VarKind, earlier};
 use mt_tree::{Boxed, Row};
 
 // Each of these looks at the declarations that its contract names.

@@ -1,8 +1,7 @@
 ghost use Rattle.std.specs.Prelude.{◌≡◌};
 ghost use Rattle.mt_declared.specs.Repeated.{twice_at};
 
-use mt_rules::{Broken, Rule};
-use mt_syntax::Mark;
+use mt_syntax::{Broken, Mark, Rule};
 
 // A name that is declared where it may not be.
 pub(crate) fn twice_at(name: &Mark) -> Broken

@@ -1,7 +1,7 @@
 //! The search for the first name that one scope declares twice, in two ways.
 
 ghost use Rattle.std.specs.Prelude.{◌≡◌, IfOk};
-ghost use Rattle.mt_rules.specs.First.{first_of};
+ghost use Rattle.mt_syntax.specs.First.{first_of};
 ghost use Rattle.mt_declared.specs.Repeated.{repeated};
 ghost use Rattle.mt_declared.specs.Scopes.{scope_of};
 
@@ -11,8 +11,7 @@ mod by_table;
 use crate::declaration::DeclarationKind;
 pub(crate) use by_comparison::ByComparison;
 pub(crate) use by_table::{ByTable, first_repeated};
-use mt_rules::Broken;
-use mt_syntax::{Mark, Stmt};
+use mt_syntax::{Broken, Mark, Stmt};
 use mt_tree::Row;
 
 // A way to find, of the declarations of a scope in text order, the first that clashes with one before it.

@@ -1,15 +1,20 @@
-//! The tagged JSON of data, read exactly.
+//! The tagged JSON of data, in which data cross between the tiers: written, and read exactly.
+//!
+//! [`data_text`], [`arguments_text`] and [`json_text`] append to a list of bytes exactly the text that `DataText` among the
+//! definitions of `mt_syntax` gives, in UTF-8. What stood in the list before stays in front of it. Want of memory is the
+//! only refusal; a beginning of the text may then have been appended.
 //!
 //! [`read_data`] and [`read_arguments`] give the data whose text the bytes are, and refuse bytes that are no text of data
 //! within the limits: a space more, another escape of the same character or another spelling of a number is refused.
 //!
 //! A lenient reader finds the one datum that the bytes can be the text of, without recursion deeper than the limit; what it
-//! finds is measured, written again by `mt_json_write`, and compared with the bytes. So all that is owed of the lenient reader
+//! finds is measured, written again, and compared with the bytes. So all that is owed of the lenient reader
 //! is that it finds the datum of each text that was written.
 //!
-//! The readers of code, pages and messages stand on this crate.
+//! The writers and readers of code, pages and messages stand on this crate.
 #![tactic(auto)]
 
+mod data;
 mod datum;
 mod digit;
 mod extent;
@@ -19,14 +24,19 @@ mod reading;
 mod refusal;
 mod rest;
 mod scalars;
+mod separator;
+mod text;
 mod values;
 
+pub use data::{arguments_text, data_text};
 pub use digit::is_digit;
 pub use laws::{one_text_for_each_datum, one_text_for_each_list};
 pub use reading::{read_arguments, read_data};
 pub use refusal::DataRefusal;
 pub use rest::{past_comma, skip};
 pub use scalars::hexadecimal;
+pub use separator::append_separator;
+pub use text::{hexadecimal_digit, json_text};
 
 #[cfg(test)]
 mod tests;

@@ -8,7 +8,7 @@ use crate::extent::Extent;
 use crate::refusal::DataRefusal;
 use crate::rest::skip;
 use crate::values::{datum, items};
-use mt_json_write::{arguments_text, data_text};
+use crate::data::{arguments_text, data_text};
 use mt_tree::{Data, NoMemory, Row};
 use std::alloc::Global;
 use std::slice;

@@ -5,7 +5,7 @@ use Rattle.std.proofs.lemmas.List.{flat_map_more, take_more, take_all}
 use Rattle.mt_methods.specs.Costs.{counted}
 use Rattle.mt_methods.specs.Joining.{shown, joined}
 use Rattle.mt_tree.specs.Text.{units_of}
-use Rattle.mt_units.proofs.Places.{units_of-append}
+use Rattle.mt_tree.proofs.Cuts.{units_of-append}
 use Rattle.mt_value.specs.declared.value.Value.{Value}
 
 module _ (separator : List ℕ) where

@@ -22,9 +22,9 @@ use Rattle.mt_ops.specs.declared.error.ErrorKind.TheVariants as error
 use Rattle.mt_ops.specs.declared.outcome.Outcome.{Outcome}
 use Rattle.mt_tree.specs.Text.{units_of}
 use Rattle.mt_tree.specs.declared.fault.NoMemory.{NoMemory}
-use Rattle.mt_units.proofs.Finding.{find_is_first}
-use Rattle.mt_units.proofs.Places.{cut_is_between, units_of-append}
-use Rattle.mt_units.specs.Units.{cut, find}
+use Rattle.mt_tree.proofs.Finding.{find_is_first}
+use Rattle.mt_tree.proofs.Cuts.{cut_is_between, units_of-append}
+use Rattle.mt_tree.specs.Units.{cut, find}
 use Rattle.mt_value.proofs.Laws.{keeps_added, keeps_put, lawful_added, lawful_put, value_kept, values_kept}
 use Rattle.mt_value.specs.Lawful.{Kind, kind_of, Names, Keeps, LawfulValue, LawfulItems, LawfulCell, Lawful}
 use Rattle.mt_value.specs.Limits.{in_range, text_fits}

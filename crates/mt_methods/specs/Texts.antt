@@ -6,7 +6,7 @@ use Rattle.mt_methods.specs.declared.name.MethodName.TheVariants as name
 use Rattle.mt_ops.specs.declared.error.ErrorKind.{ErrorKind}
 use Rattle.mt_ops.specs.declared.error.ErrorKind.TheVariants as error
 use Rattle.mt_tree.specs.Text.{units_of}
-use Rattle.mt_units.specs.Units.{cut, find}
+use Rattle.mt_tree.specs.Units.{cut, find}
 use Rattle.mt_value.specs.declared.value.Value.{Value}
 use Rattle.mt_value.specs.declared.value.Value.TheVariants as value
 

@@ -11,7 +11,7 @@ ghost use Rattle.mt_tree.specs.Text.{units_of};
 use crate::name::{MethodName, bad_argument};
 use mt_ops::{ErrorKind, Refusal, join_text, push_text};
 use mt_tree::{NoMemory, Text};
-use mt_units::decimal_units;
+use mt_tree::decimal_units;
 use mt_value::Value;
 use std::alloc::Global;
 

@@ -9,7 +9,7 @@ use crate::argument::{argument, place_number, range};
 use crate::name::{MethodName, bad_argument, no_such};
 use mt_ops::{ErrorKind, Refusal};
 use mt_tree::Text;
-use mt_units::{cut, find};
+use mt_tree::{cut, find};
 use mt_value::Value;
 use std::alloc::Global;
 

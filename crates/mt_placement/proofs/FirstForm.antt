@@ -3,12 +3,12 @@ use Rattle.std.proofs.Common.{◌≡◌, ℕ, Bool, true, false, not, List, [], 
 use Rattle.std.specs.Str.{encode_utf8_all}
 use Rattle.mt_tree.specs.Tables.{is_among, is_attribute, is_tag}
 use Rattle.mt_tree.specs.declared.place.Place.{Place}
-use Rattle.mt_rules.specs.First.{earlier_of, first_of}
-use Rattle.mt_rules.specs.Joining.{all, first}
-use Rattle.mt_rules.specs.declared.broken.Broken.{Broken}
-use Rattle.mt_rules.specs.declared.rule.Rule.{Rule}
-use Rattle.mt_rules.specs.declared.rule.Rule.TheVariants as rule
-use Rattle.mt_rules.proofs.Order.{first_of_lists}
+use Rattle.mt_syntax.specs.First.{earlier_of, first_of}
+use Rattle.mt_syntax.specs.Joining.{all, first}
+use Rattle.mt_syntax.specs.declared.broken.Broken.{Broken}
+use Rattle.mt_syntax.specs.declared.rule.Rule.{Rule}
+use Rattle.mt_syntax.specs.declared.rule.Rule.TheVariants as rule
+use Rattle.mt_syntax.proofs.Order.{first_of_lists}
 use Rattle.mt_syntax.specs.Sort as sort
 use Rattle.mt_syntax.specs.Fold.{ExprKindLayer, MarkupLayer, MarkupChildLayer, MarkupValueLayer, StmtKindLayer, on_expr, on_stmt}
 use Rattle.mt_syntax.specs.Gathering.{all_of, gathering}

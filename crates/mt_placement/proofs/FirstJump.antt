@@ -1,9 +1,9 @@
 -- The walk that gives the first jump gives the first of all jumps.
 use Rattle.std.proofs.Common.{◌≡◌, Bool, true, false, List, [], ◌∷◌, ◌++◌, Option, None, Some, refl, ◌∙◌}
-use Rattle.mt_rules.specs.First.{earlier_of, first_of}
-use Rattle.mt_rules.specs.Joining.{all, first}
-use Rattle.mt_rules.specs.declared.broken.Broken.{Broken}
-use Rattle.mt_rules.proofs.Order.{first_of_lists}
+use Rattle.mt_syntax.specs.First.{earlier_of, first_of}
+use Rattle.mt_syntax.specs.Joining.{all, first}
+use Rattle.mt_syntax.specs.declared.broken.Broken.{Broken}
+use Rattle.mt_syntax.proofs.Order.{first_of_lists}
 use Rattle.mt_syntax.specs.Fold.{StmtKindLayer, on_expr, on_stmt}
 use Rattle.mt_syntax.specs.Gathering.{gathering}
 use Rattle.mt_syntax_laws.proofs.Gathered.{Alike, gathered, rows}

@@ -1,10 +1,10 @@
 -- The walk over a program that gives the first place gives the first of all of these places.
 use Rattle.std.proofs.Common.{◌≡◌, ℕ, ◌+◌, ◌<◌, List, [], ◌∷◌, ◌++◌, map, Option, None, Some, length, get_or, take, refl, sym, ap, ◌∙◌}
 use Rattle.std.specs.Prelude.{IsTrue, Bool, true, false, not, is_some}
-use Rattle.mt_rules.specs.First.{earlier_of, first_of}
-use Rattle.mt_rules.specs.Joining.{all, first}
-use Rattle.mt_rules.specs.declared.broken.Broken.{Broken}
-use Rattle.mt_rules.proofs.Order.{first_of_lists, none}
+use Rattle.mt_syntax.specs.First.{earlier_of, first_of}
+use Rattle.mt_syntax.specs.Joining.{all, first}
+use Rattle.mt_syntax.specs.declared.broken.Broken.{Broken}
+use Rattle.mt_syntax.proofs.Order.{first_of_lists, none}
 use Rattle.mt_syntax.specs.Fold.{on_expr, on_stmt}
 use Rattle.mt_syntax.specs.Gathering.{all_of}
 use Rattle.mt_syntax.specs.declared.program.Program.{Program}

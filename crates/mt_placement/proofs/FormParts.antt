@@ -2,10 +2,10 @@
 use Rattle.std.proofs.Common.{◌≡◌, ℕ, ◌+◌, ◌<◌, List, [], map, not, Option, None, Some, length, get_or, take, refl, ap}
 use Rattle.std.specs.Str.{encode_utf8_all}
 use Rattle.mt_tree.specs.Tables.{is_tag}
-use Rattle.mt_rules.specs.First.{earlier_of}
-use Rattle.mt_rules.specs.Joining.{first}
-use Rattle.mt_rules.specs.declared.broken.Broken.{Broken}
-use Rattle.mt_rules.specs.declared.rule.Rule.TheVariants as rule
+use Rattle.mt_syntax.specs.First.{earlier_of}
+use Rattle.mt_syntax.specs.Joining.{first}
+use Rattle.mt_syntax.specs.declared.broken.Broken.{Broken}
+use Rattle.mt_syntax.specs.declared.rule.Rule.TheVariants as rule
 use Rattle.mt_syntax.specs.Fold.{MarkupLayer, Tree, on_expr, on_for_start, on_markup, on_markup_attribute, on_markup_child, on_stmt, on_stmt_kind}
 use Rattle.mt_syntax_laws.proofs.Related.{at_markup, at_stmt_kind}
 use Rattle.mt_syntax.specs.declared.tree.Expr.{Expr}

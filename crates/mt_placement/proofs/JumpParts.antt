@@ -1,8 +1,8 @@
 -- The first jump in a list of parts, part by part, and in the parts of a `for`.
 use Rattle.std.proofs.Common.{◌≡◌, ℕ, ◌+◌, ◌<◌, List, Option, None, Some, length, get_or, take, refl, ap}
-use Rattle.mt_rules.specs.First.{earlier_of}
-use Rattle.mt_rules.specs.Joining.{first}
-use Rattle.mt_rules.specs.declared.broken.Broken.{Broken}
+use Rattle.mt_syntax.specs.First.{earlier_of}
+use Rattle.mt_syntax.specs.Joining.{first}
+use Rattle.mt_syntax.specs.declared.broken.Broken.{Broken}
 use Rattle.mt_syntax.specs.Fold.{on_expr, on_for_start, on_stmt, on_stmt_kind}
 use Rattle.mt_syntax_laws.proofs.Related.{at_stmt_kind}
 use Rattle.mt_syntax.specs.declared.tree.Expr.{Expr}

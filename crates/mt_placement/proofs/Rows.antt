@@ -1,8 +1,8 @@
 -- The first of what is found in the parts of a list, part by part.
 use Rattle.std.proofs.Common.{◌≡◌, ℕ, zero, suc, ◌+◌, ◌<◌, List, [], ◌∷◌, map, Option, None, length, get_or, take, sym, ap, ◌∙◌, arith, add-one}
-use Rattle.mt_rules.specs.First.{earlier_of}
-use Rattle.mt_rules.specs.declared.broken.Broken.{Broken}
-use Rattle.mt_rules.proofs.Order.{grouping, none_last}
+use Rattle.mt_syntax.specs.First.{earlier_of}
+use Rattle.mt_syntax.specs.declared.broken.Broken.{Broken}
+use Rattle.mt_syntax.proofs.Order.{grouping, none_last}
 use Rattle.mt_syntax.specs.Gathering.{all_of}
 
 -- `found` reads the first broken place off a result

@@ -5,11 +5,11 @@ use Rattle.std.specs.Str.{bytes_eq, encode_utf8_all}
 use Rattle.std.proofs.lemmas.List.{append_assoc, append-nil, map-append}
 use Rattle.std.proofs.lemmas.List.Folds.{list_any-append}
 use Rattle.mt_tree.specs.Tables.{is_among}
-use Rattle.mt_rules.specs.First.{earlier_of}
-use Rattle.mt_rules.specs.Joining.{first}
-use Rattle.mt_rules.specs.declared.broken.Broken.{Broken}
-use Rattle.mt_rules.specs.declared.rule.Rule.TheVariants as rule
-use Rattle.mt_rules.proofs.Order.{grouping, none_last}
+use Rattle.mt_syntax.specs.First.{earlier_of}
+use Rattle.mt_syntax.specs.Joining.{first}
+use Rattle.mt_syntax.specs.declared.broken.Broken.{Broken}
+use Rattle.mt_syntax.specs.declared.rule.Rule.TheVariants as rule
+use Rattle.mt_syntax.proofs.Order.{grouping, none_last}
 use Rattle.mt_syntax.specs.declared.tree.Mark.{Mark}
 use Rattle.mt_placement.specs.Forms.{Part, broken_if, names_of, repeated_behind}
 

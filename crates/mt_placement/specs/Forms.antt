@@ -4,9 +4,9 @@ use Rattle.std.specs.Prelude.{ℕ, Bool, true, false, not, cond, List, [], ◌�
 use Rattle.std.specs.Str.{encode_utf8_all}
 use Rattle.mt_tree.specs.Tables.{is_among, is_attribute, is_handler, is_tag}
 use Rattle.mt_tree.specs.declared.place.Place.{Place}
-use Rattle.mt_rules.specs.Joining.{Joining}
-use Rattle.mt_rules.specs.declared.rule.Rule.{Rule}
-use Rattle.mt_rules.specs.declared.rule.Rule.TheVariants as rule
+use Rattle.mt_syntax.specs.Joining.{Joining}
+use Rattle.mt_syntax.specs.declared.rule.Rule.{Rule}
+use Rattle.mt_syntax.specs.declared.rule.Rule.TheVariants as rule
 use Rattle.mt_syntax.specs.Fold.{Every, ExprKindLayer, MarkupLayer, MarkupAttributeLayer, MarkupChildLayer, MarkupValueLayer, StmtKindLayer, Steps}
 use Rattle.mt_syntax.specs.Gathering.{all_of, or_none, gathering, of_expr_kind, of_stmt_kind}
 use Rattle.mt_syntax.specs.Substitution.{nowhere}

@@ -2,8 +2,8 @@
 -- of a tilde is a body of its own, and so is the expression of a dollar.
 use Rattle.std.specs.Prelude.{Bool, true, false, cond, List, map, Option, option_map}
 use Rattle.mt_tree.specs.declared.place.Place.{Place}
-use Rattle.mt_rules.specs.Joining.{Joining}
-use Rattle.mt_rules.specs.declared.rule.Rule.TheVariants as rule
+use Rattle.mt_syntax.specs.Joining.{Joining}
+use Rattle.mt_syntax.specs.declared.rule.Rule.TheVariants as rule
 use Rattle.mt_syntax.specs.Fold.{Every, StmtKindLayer, Steps}
 use Rattle.mt_syntax.specs.Gathering.{all_of, or_none, gathering, of_stmt_kind}
 use Rattle.mt_syntax.specs.declared.tree.ExprKind.TheOpen.{StmtKind-F}

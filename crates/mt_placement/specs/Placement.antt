@@ -1,7 +1,7 @@
 -- The places of a program at which a form of the language stands where it may not, each with the rule that it breaks.
 use Rattle.std.specs.Prelude.{false, List, map}
-use Rattle.mt_rules.specs.Joining.{Joining, all}
-use Rattle.mt_rules.specs.declared.broken.Broken.{Broken}
+use Rattle.mt_syntax.specs.Joining.{Joining, all}
+use Rattle.mt_syntax.specs.declared.broken.Broken.{Broken}
 use Rattle.mt_syntax.specs.Fold.{on_expr, on_stmt}
 use Rattle.mt_syntax.specs.Gathering.{all_of}
 use Rattle.mt_syntax.specs.Substitution.{nowhere}

@@ -1,13 +1,12 @@
 ghost use Rattle.std.specs.Prelude.{◌≡◌, ◌↔◌, [], None, map, IfOk, IsTrue};
-ghost use Rattle.mt_rules.specs.First.{earlier_of, first_of};
-ghost use Rattle.mt_rules.specs.Joining.{first};
+ghost use Rattle.mt_syntax.specs.First.{earlier_of, first_of};
+ghost use Rattle.mt_syntax.specs.Joining.{first};
 ghost use Rattle.mt_syntax.specs.Gathering.{all_of};
 ghost use Rattle.mt_placement.specs.Placement.{in_body, in_dollars, in_tilde, directly_in, jumps_in_body, misplaced, misplaced_jumps};
 
 use crate::forms::{Scene, Site, forms_in_exprs, forms_in_stmts};
 use crate::jumps::{Around, jumps_in_exprs, jumps_in_stmts};
-use mt_rules::{Broken, earlier};
-use mt_syntax::{Expr, Program, Stmt, Tilde};
+use mt_syntax::{Broken, Expr, Program, Stmt, Tilde, earlier};
 use mt_tree::{NoMemory, Place, Row};
 use std::alloc::Global;
 

@@ -5,7 +5,7 @@ use Rattle.mt_ops.proofs.Texts.{ascii, units_joined as units_sum}
 use Rattle.mt_ops.specs.Texts.{is_plain}
 use Rattle.mt_properties.specs.Costs.{joined_units}
 use Rattle.mt_tree.specs.Text.{units_of}
-use Rattle.mt_units.proofs.Numbers.{units_ascii}
+use Rattle.mt_tree.proofs.Numbers.{units_ascii}
 
 pub units_plain : (bs : List ℕ) → is_plain bs ≡ true → units_of bs ≡ length bs
 units_plain bs plain = units_ascii bs (ascii bs plain)

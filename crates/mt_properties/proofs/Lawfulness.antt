@@ -22,7 +22,7 @@ use Rattle.mt_properties.specs.Properties.{cell_property, property, array_cell, 
 use Rattle.mt_properties.specs.Texts.{part_or_error, unit_at, text_property}
 use Rattle.mt_properties.proofs.Texts.{one_unit}
 use Rattle.mt_tree.specs.Text.{units_of}
-use Rattle.mt_units.specs.Units.{cut}
+use Rattle.mt_tree.specs.Units.{cut}
 use Rattle.mt_value.proofs.Laws.{keeps_put, cell_kept, lawful_put}
 use Rattle.mt_value.specs.Lawful.{Kind, kind_of, Names, Keeps, LawfulValue, LawfulProperties, LawfulItems, LawfulCell, Lawful}
 use Rattle.mt_value.specs.Limits.{in_range, text_fits}

@@ -3,8 +3,8 @@ use Rattle.std.proofs.Common.{◌≡◌, ◌≤◌, ℕ, suc, List, length, Some
 use Rattle.std.specs.Str.{chars, IsUtf8}
 use Rattle.mt_tree.specs.Text.{units_of}
 use Rattle.mt_tree.proofs.Texts.{units_of-chars_le}
-use Rattle.mt_units.specs.Units.{cut, StandsBetween}
-use Rattle.mt_units.proofs.Places.{cut_is_between}
+use Rattle.mt_tree.specs.Units.{cut, StandsBetween}
+use Rattle.mt_tree.proofs.Cuts.{cut_is_between}
 
 pub no_more_than_bytes : (bs text : List ℕ) → IsUtf8 bs → chars bs ≡ text → units_of text ≤ length bs
 no_more_than_bytes bs text u is = subst (λ t. units_of t ≤ length bs) is (units_of-chars_le bs u)

@@ -4,7 +4,7 @@ use Rattle.mt_ops.specs.declared.error.ErrorKind.{ErrorKind}
 use Rattle.mt_ops.specs.declared.error.ErrorKind.TheVariants as error
 use Rattle.mt_properties.specs.Keys.{no_such}
 use Rattle.mt_tree.specs.Text.{units_of}
-use Rattle.mt_units.specs.Units.{cut}
+use Rattle.mt_tree.specs.Units.{cut}
 use Rattle.mt_value.specs.Names.{is_same}
 use Rattle.mt_value.specs.declared.value.Value.{Value}
 use Rattle.mt_value.specs.declared.value.Value.TheVariants as value

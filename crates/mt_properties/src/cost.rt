@@ -8,7 +8,7 @@ ghost use Rattle.mt_tree.specs.Text.{units_of};
 use mt_ops::type_name;
 use mt_syntax::{Binary, Unary};
 use mt_tree::Text;
-use mt_units::decimal_units;
+use mt_tree::decimal_units;
 use mt_value::Value;
 
 /// How many units of UTF-16 of a text that is made, compared or cut cost one step.

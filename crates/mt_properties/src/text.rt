@@ -6,7 +6,7 @@ ghost use Rattle.mt_tree.specs.Text.{units_of};
 use crate::key::{is_length, no_such};
 use mt_ops::{ErrorKind, Refusal};
 use mt_tree::Text;
-use mt_units::cut;
+use mt_tree::cut;
 use mt_value::Value;
 use std::alloc::Global;
 

@@ -1,6 +1,6 @@
 -- The places at which a program uses a name that it may not use there.
 use Rattle.std.specs.Prelude.{ℕ, zero, suc, Bool, not, List, [], filter, flat_map, length, slice_get, Option, None, Some}
-use Rattle.mt_rules.specs.declared.broken.Broken.{Broken}
+use Rattle.mt_syntax.specs.declared.broken.Broken.{Broken}
 use Rattle.mt_syntax.specs.Fold.{on_expr}
 use Rattle.mt_syntax.specs.declared.program.Program.{Program}
 use Rattle.mt_syntax.specs.declared.program.Tilde.{Tilde}

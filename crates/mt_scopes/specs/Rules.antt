@@ -1,9 +1,9 @@
 -- The rules on one name, by the tier of the code that uses it.
 use Rattle.std.specs.Prelude.{ℕ, Bool, not, ◌&&◌, ◌||◌, if◌then◌else◌, List, [], ◌∷◌, ◌++◌}
 use Rattle.mt_tree.specs.declared.place.Place.{Place}
-use Rattle.mt_rules.specs.declared.broken.Broken.{Broken}
-use Rattle.mt_rules.specs.declared.rule.Rule.{Rule}
-use Rattle.mt_rules.specs.declared.rule.Rule.TheVariants as rule
+use Rattle.mt_syntax.specs.declared.broken.Broken.{Broken}
+use Rattle.mt_syntax.specs.declared.rule.Rule.{Rule}
+use Rattle.mt_syntax.specs.declared.rule.Rule.TheVariants as rule
 use Rattle.mt_syntax.specs.declared.tree.Mark.{Mark}
 use Rattle.mt_declared.specs.Builtins.{is_builtin_of_both, is_client_builtin, is_server_builtin}
 use Rattle.mt_declared.specs.Scopes.{declares}

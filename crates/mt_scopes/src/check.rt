@@ -1,6 +1,6 @@
 ghost use Rattle.std.specs.Prelude.{◌≡◌, Option, Some, flat_map, slice_get, IfOk};
 ghost use Rattle.std.specs.Option.{option_copied};
-ghost use Rattle.mt_rules.specs.First.{first_of};
+ghost use Rattle.mt_syntax.specs.First.{first_of};
 ghost use Rattle.mt_syntax.specs.Fold.{on_expr};
 ghost use Rattle.mt_declared.specs.Declarations.{declared_in_file};
 ghost use Rattle.mt_scopes.specs.Bound.{at_top, in_dollar};
@@ -13,8 +13,7 @@ use crate::rules::broken_by_name;
 use crate::site::Site;
 use crate::sites::{block_scope, expr, stmts};
 use mt_declared::{Scope, declared_in_file};
-use mt_rules::{Broken, earlier};
-use mt_syntax::{Expr, Program, Stmt, Tilde};
+use mt_syntax::{Broken, Expr, Program, Stmt, Tilde, earlier};
 use mt_tree::{NoMemory, Row};
 use std::alloc::Global;
 

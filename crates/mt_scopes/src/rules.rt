@@ -1,11 +1,10 @@
 ghost use Rattle.std.specs.Prelude.{◌≡◌};
-ghost use Rattle.mt_rules.specs.First.{first_of};
+ghost use Rattle.mt_syntax.specs.First.{first_of};
 ghost use Rattle.mt_scopes.specs.Rules.{breaks_s5, breaks_s6, broken_by_name, broken_in_client, broken_in_server, broken_where, is_client_name, is_foreign, is_of_client, is_server_name, is_unknown};
 
 use crate::around::{Around, Tier, bound};
 use mt_declared::{Scope, builtin_of_both, client_builtin, server_builtin};
-use mt_rules::{Broken, Rule, earlier};
-use mt_syntax::Mark;
+use mt_syntax::{Broken, Mark, Rule, earlier};
 use mt_tree::{Place, Text};
 
 fn is_server_name(name: &Text, around: &Around) -> bool

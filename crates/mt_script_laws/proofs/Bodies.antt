@@ -20,7 +20,7 @@ use Rattle.mt_syntax.specs.declared.tree.StmtKind.{StmtKind, roll-StmtKind}
 use Rattle.mt_syntax.specs.declared.tree.VarKind.TheVariants as word
 use Rattle.mt_syntax.specs.declared.tree.ExprKind.TheOpen.{ForStart-F, StmtKind-F}
 use Rattle.mt_syntax_laws.proofs.Related.{at_for_start, at_stmt_kind}
-use Rattle.mt_stage.specs.Texts.{measuring_texts}
+use Rattle.mt_syntax.specs.Texts.{measuring_texts}
 use Rattle.mt_script_words.specs.Keywords.{keyword_of}
 use Rattle.mt_script_words.specs.Words.{word_of}
 use Rattle.mt_script_words.specs.declared.keywords.Keyword.TheVariants as keyword

@@ -20,7 +20,7 @@ use Rattle.mt_syntax.specs.declared.tree.StmtKind.{StmtKind}
 use Rattle.mt_syntax.specs.declared.tree.ExprKind.TheOpen.{ExprKind-F}
 use Rattle.mt_syntax_laws.proofs.Layers.{map_function}
 use Rattle.mt_syntax_laws.proofs.Related.{on}
-use Rattle.mt_stage.specs.Texts.{length_of_name, length_of_own_name}
+use Rattle.mt_syntax.specs.Texts.{length_of_name, length_of_own_name}
 use Rattle.mt_json.specs.Reading.{◌>>=◌, Parse, first_at, goes_on, many, past_comma}
 use Rattle.mt_script_words.proofs.Found.{Finds, IsShortName, IsShortText, data_found, finds, finds_if, finds_nothing, names_found, numbers_found, texts_found, then_finds}
 use Rattle.mt_script_words.specs.Keywords.{leader_of}

@@ -21,7 +21,7 @@ use Rattle.mt_syntax.specs.declared.tree.VarKind.{VarKind}
 use Rattle.mt_syntax.specs.declared.tree.VarKind.TheVariants as words
 use Rattle.mt_syntax.specs.declared.tree.ExprKind.TheOpen.{ForStart-F, StmtKind-F}
 use Rattle.mt_syntax_laws.proofs.Related.{at_decl, at_function, at_stmt, at_stmt_kind}
-use Rattle.mt_stage.specs.Texts.{measuring_texts}
+use Rattle.mt_syntax.specs.Texts.{measuring_texts}
 use Rattle.mt_json.specs.Reading.{Parse, first_at}
 use Rattle.mt_script_words.proofs.Found.{Finds, finds, finds_if, finds_nothing, then_finds}
 use Rattle.mt_script_words.specs.Keywords.{keyword_of}

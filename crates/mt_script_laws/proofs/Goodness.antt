@@ -28,7 +28,7 @@ use Rattle.mt_syntax.specs.declared.tree.StmtKind.{roll-StmtKind}
 use Rattle.mt_syntax.specs.declared.tree.ExprKind.TheOpen.{ExprKind-F}
 use Rattle.mt_syntax_laws.proofs.Layers.{map_decl, map_expr, map_expr_kind, map_for_start, map_function, map_prop, map_stmt, map_stmt_kind}
 use Rattle.mt_syntax_laws.proofs.Related.{on, at_decl, at_expr, at_expr_kind, at_for_start, at_function, at_prop, at_stmt, at_stmt_kind}
-use Rattle.mt_stage.specs.Texts.{length_of_name, measuring_texts}
+use Rattle.mt_syntax.specs.Texts.{length_of_name, measuring_texts}
 use Rattle.mt_script_words.specs.Values.{is_within}
 use Rattle.mt_script_words.specs.Words.{is_short}
 

@@ -20,7 +20,8 @@ use Rattle.mt_syntax_laws.proofs.Layers.{map_expr_kind}
 use Rattle.mt_syntax_laws.proofs.Related.{Preserved, Two, lefts, related_stmt, rights}
 use Rattle.mt_script_words.specs.Values.{is_within}
 use Rattle.mt_script_words.proofs.ValueTexts.{is_within_by}
-use Rattle.mt_stage.specs.CodeLimits.{IsCodeWithinLimits, longest_in}
+use Rattle.mt_stage.specs.CodeLimits.{IsCodeWithinLimits}
+use Rattle.mt_syntax.specs.Texts.{longest_in}
 use Rattle.mt_script_laws.specs.Readable.{IsReadable}
 use Rattle.mt_script_laws.proofs.Goodness.{AllGood, testing_within}
 

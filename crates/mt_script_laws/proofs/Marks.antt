@@ -20,7 +20,7 @@ use Rattle.mt_syntax.specs.declared.tree.Mark.{Mark}
 use Rattle.mt_syntax.specs.declared.tree.Prop.{Prop, roll-Prop}
 use Rattle.mt_syntax.specs.declared.tree.Stmt.{Stmt}
 use Rattle.mt_syntax_laws.proofs.Related.{at_decl, at_function, at_prop}
-use Rattle.mt_stage.specs.Texts.{length_of_own_name}
+use Rattle.mt_syntax.specs.Texts.{length_of_own_name}
 use Rattle.mt_json.proofs.Again.{Begins}
 use Rattle.mt_script_words.specs.Words.{is_short, is_word_byte, mark_at, unplaced_mark, word_length}
 use Rattle.mt_script_words.proofs.LiteralTexts.{text_read}

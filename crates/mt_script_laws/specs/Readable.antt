@@ -4,7 +4,7 @@ use Rattle.std.specs.List.{list_all}
 use Rattle.mt_syntax.specs.Codes.{IsCode}
 use Rattle.mt_syntax.specs.Numbering.{values_of}
 use Rattle.mt_syntax.specs.declared.tree.Stmt.{Stmt}
-use Rattle.mt_stage.specs.CodeLimits.{longest_in}
+use Rattle.mt_syntax.specs.Texts.{longest_in}
 use Rattle.mt_script_words.specs.Values.{is_within}
 
 pub record IsReadable (body : List Stmt) : Type 0 where

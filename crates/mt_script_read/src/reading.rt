@@ -11,8 +11,7 @@ ghost use Rattle.mt_script_read.specs.Reads.{Reads};
 
 use crate::walk::stmts;
 use mt_declared::declares_once_by_table;
-use mt_json::{DataRefusal, read_arguments};
-use mt_json_write::arguments_text;
+use mt_json::{DataRefusal, arguments_text, read_arguments};
 use mt_placement::jumps_fit;
 use mt_script_tree::read_statements;
 use mt_script_words::CodeRefusal;

@@ -5,8 +5,7 @@ ghost use Rattle.mt_script_words.specs.Literals.{code_of, escape_at, piece_at, p
 use crate::refusal::CodeRefusal;
 use crate::texts::short_text;
 use mt_json::hexadecimal;
-use mt_json_write::append;
-use mt_tree::{NoMemory, Text};
+use mt_tree::{NoMemory, Text, append};
 use std::alloc::Global;
 
 /// A part of a literal.

@@ -7,13 +7,13 @@ use crate::functions::append_function;
 use crate::literal::append_literal;
 use crate::signs::{assignment_sign, binary_sign, unary_opening};
 use crate::values::{append_dollar, append_value};
-use mt_json_write::{append, append_number, append_separator};
+use mt_json::append_separator;
 use mt_syntax::{Expr, ExprKind, Prop, StepKind};
-use mt_tree::{Data, NoMemory};
+use mt_tree::{Data, NoMemory, append, append_number};
 use std::alloc::Global;
 
 #[cycle(code)]
-#[tactic(auto, using(mt_json_write::proofs::Fronts::front_of_front, mt_json_write::proofs::Fronts::front_of_more))]
+#[tactic(auto, using(mt_tree::proofs::Fronts::front_of_front, mt_tree::proofs::Fronts::front_of_more))]
 pub(crate) fn append_expr(
     alloc: Global,
     from: &Expr,
@@ -28,7 +28,7 @@ pub(crate) fn append_expr(
 
 // Nodes that no code has write nothing.
 #[cycle(code)]
-#[tactic(auto, using(mt_json_write::proofs::Fronts::front_of_front, mt_json_write::proofs::Fronts::front_of_more))]
+#[tactic(auto, using(mt_tree::proofs::Fronts::front_of_front, mt_tree::proofs::Fronts::front_of_more))]
 fn append_expr_kind(
     alloc: Global,
     from: &ExprKind,
@@ -103,7 +103,7 @@ fn append_expr_kind(
 
 /// Appends an expression between two pieces of text.
 #[cycle(code)]
-#[tactic(auto, using(mt_json_write::proofs::Fronts::front_of_front, mt_json_write::proofs::Fronts::front_of_more))]
+#[tactic(auto, using(mt_tree::proofs::Fronts::front_of_front, mt_tree::proofs::Fronts::front_of_more))]
 pub(crate) fn append_enclosed(
     alloc: Global,
     from: &Expr,
@@ -121,7 +121,7 @@ pub(crate) fn append_enclosed(
 }
 
 #[cycle(code)]
-#[tactic(auto, using(mt_json_write::proofs::Fronts::front_of_front, mt_json_write::proofs::Fronts::front_of_more))]
+#[tactic(auto, using(mt_tree::proofs::Fronts::front_of_front, mt_tree::proofs::Fronts::front_of_more))]
 fn append_exprs(
     alloc: Global,
     items: &[Expr],
@@ -142,7 +142,7 @@ fn append_exprs(
 
 // The expressions with commas, between two pieces of text.
 #[cycle(code)]
-#[tactic(auto, using(mt_json_write::proofs::Fronts::front_of_front, mt_json_write::proofs::Fronts::front_of_more))]
+#[tactic(auto, using(mt_tree::proofs::Fronts::front_of_front, mt_tree::proofs::Fronts::front_of_more))]
 fn append_list(
     alloc: Global,
     items: &[Expr],
@@ -160,7 +160,7 @@ fn append_list(
 }
 
 #[cycle(code)]
-#[tactic(auto, using(mt_json_write::proofs::Fronts::front_of_front, mt_json_write::proofs::Fronts::front_of_more))]
+#[tactic(auto, using(mt_tree::proofs::Fronts::front_of_front, mt_tree::proofs::Fronts::front_of_more))]
 fn append_prop(
     alloc: Global,
     from: &Prop,
@@ -175,7 +175,7 @@ fn append_prop(
 }
 
 #[cycle(code)]
-#[tactic(auto, using(mt_json_write::proofs::Fronts::front_of_front, mt_json_write::proofs::Fronts::front_of_more))]
+#[tactic(auto, using(mt_tree::proofs::Fronts::front_of_front, mt_tree::proofs::Fronts::front_of_more))]
 fn append_props(
     alloc: Global,
     items: &[Prop],
@@ -195,7 +195,7 @@ fn append_props(
 }
 
 #[cycle(code)]
-#[tactic(auto, using(mt_json_write::proofs::Fronts::front_of_front, mt_json_write::proofs::Fronts::front_of_more))]
+#[tactic(auto, using(mt_tree::proofs::Fronts::front_of_front, mt_tree::proofs::Fronts::front_of_more))]
 fn append_object(
     alloc: Global,
     items: &[Prop],

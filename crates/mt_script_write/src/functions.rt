@@ -5,9 +5,9 @@ ghost use Rattle.mt_syntax.specs.DataText.{separated};
 ghost use Rattle.mt_script_write.specs.Written.{function_written, stmt_written};
 
 use crate::statements::append_stmt;
-use mt_json_write::{append, append_separator};
+use mt_json::append_separator;
 use mt_syntax::{Function, Mark, Stmt};
-use mt_tree::{Data, NoMemory};
+use mt_tree::{Data, NoMemory, append};
 use std::alloc::Global;
 
 /// Appends a name.
@@ -21,7 +21,7 @@ pub(crate) fn append_name(name: &Mark, into: &mut Vec<u8>) -> Result<(), NoMemor
     append(name.name.as_bytes(), into)
 }
 
-#[tactic(auto, using(mt_json_write::proofs::Fronts::front_of_front, mt_json_write::proofs::Fronts::front_of_more))]
+#[tactic(auto, using(mt_tree::proofs::Fronts::front_of_front, mt_tree::proofs::Fronts::front_of_more))]
 fn append_names(names: &[Mark], into: &mut Vec<u8>) -> Result<(), NoMemory>
     ensures text { OnOk result (into.new.items ≡ into.old.items ++ separated (map name_text names.now)) }
     ensures kept { OnErr result (StartsWith into.new.items into.old.items) }
@@ -35,7 +35,7 @@ fn append_names(names: &[Mark], into: &mut Vec<u8>) -> Result<(), NoMemory>
     Ok(())
 }
 
-#[tactic(auto, using(mt_json_write::proofs::Fronts::front_of_front, mt_json_write::proofs::Fronts::front_of_more))]
+#[tactic(auto, using(mt_tree::proofs::Fronts::front_of_front, mt_tree::proofs::Fronts::front_of_more))]
 fn append_own_name(name: &Option<Mark>, into: &mut Vec<u8>) -> Result<(), NoMemory>
     ensures text { OnOk result (into.new.items ≡ into.old.items ++ named name.now) }
     ensures kept { OnErr result (StartsWith into.new.items into.old.items) }
@@ -49,7 +49,7 @@ fn append_own_name(name: &Option<Mark>, into: &mut Vec<u8>) -> Result<(), NoMemo
     }
 }
 
-#[tactic(auto, using(mt_json_write::proofs::Fronts::front_of_front, mt_json_write::proofs::Fronts::front_of_more))]
+#[tactic(auto, using(mt_tree::proofs::Fronts::front_of_front, mt_tree::proofs::Fronts::front_of_more))]
 fn append_parameters(names: &[Mark], into: &mut Vec<u8>) -> Result<(), NoMemory>
     ensures text { OnOk result (into.new.items ≡ into.old.items ++ (codes "(" ++ (separated (map name_text names.now) ++ codes ")"))) }
     ensures kept { OnErr result (StartsWith into.new.items into.old.items) }
@@ -61,7 +61,7 @@ fn append_parameters(names: &[Mark], into: &mut Vec<u8>) -> Result<(), NoMemory>
 
 /// Appends what stands behind the word `function`.
 #[cycle(code)]
-#[tactic(auto, using(mt_json_write::proofs::Fronts::front_of_front, mt_json_write::proofs::Fronts::front_of_more))]
+#[tactic(auto, using(mt_tree::proofs::Fronts::front_of_front, mt_tree::proofs::Fronts::front_of_more))]
 pub(crate) fn append_function(
     alloc: Global,
     from: &Function,
@@ -78,7 +78,7 @@ pub(crate) fn append_function(
 
 /// Appends statements between braces.
 #[cycle(code)]
-#[tactic(auto, using(mt_json_write::proofs::Fronts::front_of_front, mt_json_write::proofs::Fronts::front_of_more))]
+#[tactic(auto, using(mt_tree::proofs::Fronts::front_of_front, mt_tree::proofs::Fronts::front_of_more))]
 pub(crate) fn append_block(
     alloc: Global,
     items: &[Stmt],
@@ -95,7 +95,7 @@ pub(crate) fn append_block(
 
 /// Appends statements, one behind the other.
 #[cycle(code)]
-#[tactic(auto, using(mt_json_write::proofs::Fronts::front_of_front, mt_json_write::proofs::Fronts::front_of_more))]
+#[tactic(auto, using(mt_tree::proofs::Fronts::front_of_front, mt_tree::proofs::Fronts::front_of_more))]
 pub(crate) fn append_stmts(
     alloc: Global,
     items: &[Stmt],

@@ -3,8 +3,8 @@ ghost use Rattle.std.specs.Io.{StartsWith};
 ghost use Rattle.std.specs.Str.{chars};
 ghost use Rattle.mt_syntax.specs.CodeText.{code_escaped, four_digits, literal};
 
-use mt_json_write::{append, hexadecimal_digit};
-use mt_tree::NoMemory;
+use mt_json::hexadecimal_digit;
+use mt_tree::{NoMemory, append};
 
 fn append_unicode_escape(code: u32, into: &mut Vec<u8>) -> Result<(), NoMemory>
     requires { code < 2 ^ 16 }
@@ -41,7 +41,7 @@ fn append_escaped(c: char, into: &mut Vec<u8>) -> Result<(), NoMemory>
 ///
 /// # Errors
 /// `NoMemory`; a beginning of the literal may then have been appended.
-#[tactic(auto, using(mt_json_write::proofs::Fronts::front_of_front, mt_json_write::proofs::Fronts::front_of_more))]
+#[tactic(auto, using(mt_tree::proofs::Fronts::front_of_front, mt_tree::proofs::Fronts::front_of_more))]
 pub fn append_literal(text: &str, into: &mut Vec<u8>) -> Result<(), NoMemory>
     ensures text { OnOk result (into.new.items ≡ into.old.items ++ literal (chars text.now)) }
     ensures kept { OnErr result (StartsWith into.new.items into.old.items) }

@@ -7,13 +7,13 @@ ghost use Rattle.mt_script_write.specs.Written.{decl_written, expr_written, for_
 use crate::expressions::{append_enclosed, append_expr};
 use crate::functions::{append_block, append_function, append_name};
 use crate::signs::declaration_word;
-use mt_json_write::{append, append_separator};
+use mt_json::append_separator;
 use mt_syntax::{Decl, Expr, ForStart, Mark, Stmt, StmtKind};
-use mt_tree::{Boxed, Data, NoMemory};
+use mt_tree::{Boxed, Data, NoMemory, append};
 use std::alloc::Global;
 
 #[cycle(code)]
-#[tactic(auto, using(mt_json_write::proofs::Fronts::front_of_front, mt_json_write::proofs::Fronts::front_of_more))]
+#[tactic(auto, using(mt_tree::proofs::Fronts::front_of_front, mt_tree::proofs::Fronts::front_of_more))]
 pub(crate) fn append_stmt(
     alloc: Global,
     from: &Stmt,
@@ -28,7 +28,7 @@ pub(crate) fn append_stmt(
 
 // A service writes nothing: no code has one.
 #[cycle(code)]
-#[tactic(auto, using(mt_json_write::proofs::Fronts::front_of_front, mt_json_write::proofs::Fronts::front_of_more))]
+#[tactic(auto, using(mt_tree::proofs::Fronts::front_of_front, mt_tree::proofs::Fronts::front_of_more))]
 fn append_stmt_kind(
     alloc: Global,
     from: &StmtKind,
@@ -80,7 +80,7 @@ fn append_stmt_kind(
     }
 }
 
-#[tactic(auto, using(mt_json_write::proofs::Fronts::front_of_front, mt_json_write::proofs::Fronts::front_of_more))]
+#[tactic(auto, using(mt_tree::proofs::Fronts::front_of_front, mt_tree::proofs::Fronts::front_of_more))]
 fn append_catch(name: &Mark, into: &mut Vec<u8>) -> Result<(), NoMemory>
     ensures text { OnOk result (into.new.items ≡ into.old.items ++ (codes "catch(" ++ (name_text name.now ++ codes ")"))) }
     ensures kept { OnErr result (StartsWith into.new.items into.old.items) }
@@ -91,7 +91,7 @@ fn append_catch(name: &Mark, into: &mut Vec<u8>) -> Result<(), NoMemory>
 }
 
 #[cycle(code)]
-#[tactic(auto, using(mt_json_write::proofs::Fronts::front_of_front, mt_json_write::proofs::Fronts::front_of_more))]
+#[tactic(auto, using(mt_tree::proofs::Fronts::front_of_front, mt_tree::proofs::Fronts::front_of_more))]
 fn append_else(
     alloc: Global,
     from: &Option<Boxed<Stmt>>,
@@ -112,7 +112,7 @@ fn append_else(
 
 // The head of a `for` up to the first `;`.
 #[cycle(code)]
-#[tactic(auto, using(mt_json_write::proofs::Fronts::front_of_front, mt_json_write::proofs::Fronts::front_of_more))]
+#[tactic(auto, using(mt_tree::proofs::Fronts::front_of_front, mt_tree::proofs::Fronts::front_of_more))]
 fn append_start(
     alloc: Global,
     from: &ForStart,
@@ -134,7 +134,7 @@ fn append_start(
 
 // An expression that may be absent, and what stands behind it.
 #[cycle(code)]
-#[tactic(auto, using(mt_json_write::proofs::Fronts::front_of_front, mt_json_write::proofs::Fronts::front_of_more))]
+#[tactic(auto, using(mt_tree::proofs::Fronts::front_of_front, mt_tree::proofs::Fronts::front_of_more))]
 fn append_part(
     alloc: Global,
     from: &Option<Expr>,
@@ -152,7 +152,7 @@ fn append_part(
 }
 
 #[cycle(code)]
-#[tactic(auto, using(mt_json_write::proofs::Fronts::front_of_front, mt_json_write::proofs::Fronts::front_of_more))]
+#[tactic(auto, using(mt_tree::proofs::Fronts::front_of_front, mt_tree::proofs::Fronts::front_of_more))]
 fn append_decl(
     alloc: Global,
     from: &Decl,
@@ -171,7 +171,7 @@ fn append_decl(
 
 // The declarations with commas, behind their word.
 #[cycle(code)]
-#[tactic(auto, using(mt_json_write::proofs::Fronts::front_of_front, mt_json_write::proofs::Fronts::front_of_more))]
+#[tactic(auto, using(mt_tree::proofs::Fronts::front_of_front, mt_tree::proofs::Fronts::front_of_more))]
 fn append_decls(
     alloc: Global,
     items: &[Decl],

@@ -6,8 +6,8 @@ ghost use Rattle.mt_syntax.specs.Fold.{Every};
 ghost use Rattle.mt_syntax.specs.Substitution.{chosen};
 
 use crate::literal::append_literal;
-use mt_json_write::{append, data_text};
-use mt_tree::{Data, NoMemory};
+use mt_json::data_text;
+use mt_tree::{Data, NoMemory, append};
 use std::alloc::Global;
 use std::str;
 
@@ -15,7 +15,7 @@ use std::str;
 ///
 /// # Errors
 /// `NoMemory`; a beginning of the text may then have been appended.
-#[tactic(auto, using(mt_json_write::proofs::Fronts::front_of_front, mt_json_write::proofs::Fronts::front_of_more))]
+#[tactic(auto, using(mt_tree::proofs::Fronts::front_of_front, mt_tree::proofs::Fronts::front_of_more))]
 pub(crate) fn append_value(alloc: Global, datum: &Data, into: &mut Vec<u8>) -> Result<(), NoMemory>
     ensures text { OnOk result (into.new.items ≡ into.old.items ++ value_text (text_of datum.now)) }
     ensures kept { OnErr result (StartsWith into.new.items into.old.items) }

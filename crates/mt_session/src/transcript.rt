@@ -2,31 +2,31 @@ ghost use Rattle.std.specs.Prelude.{◌≡◌, ◌++◌, ◌+◌, OnOk, decimal,
 ghost use Rattle.mt_small.specs.Schedule.{message_name};
 ghost use Rattle.mt_session.specs.Transcript.{load_head, echo, kind_word, entry_head, entry, page_line, page_lines, failure_line, reply_lines, skip_line, end_line, line_end};
 
-use mt_small::{Failure, Reply, SmallCommand, append, append_number};
-use mt_tree::NoMemory;
+use mt_small::{Failure, Reply, SmallCommand};
+use mt_tree::{NoMemory, append, append_count};
 use std::alloc::Global;
 
 fn append_name(alloc: Global, into: &mut Vec<u8>, client: u32, message: u64) -> Result<(), NoMemory>
     ensures { OnOk result (into.new.items ≡ into.old.items ++ message_name client message) }
 {
-    append_number(alloc, into, u64::from(client))?;
-    append(into, b".")?;
-    append_number(alloc, into, message)
+    append_count(alloc, u64::from(client), into)?;
+    append(b".", into)?;
+    append_count(alloc, message, into)
 }
 
 fn append_line(into: &mut Vec<u8>, bytes: &[u8]) -> Result<(), NoMemory>
     ensures { OnOk result (into.new.items ≡ into.old.items ++ (bytes.now ++ line_end)) }
 {
-    append(into, bytes)?;
-    append(into, b"\n")
+    append(bytes, into)?;
+    append(b"\n", into)
 }
 
 fn append_load_head(alloc: Global, into: &mut Vec<u8>, client: u32) -> Result<(), NoMemory>
     ensures { OnOk result (into.new.items ≡ into.old.items ++ load_head client) }
 {
-    append(into, b"> load ")?;
-    append_number(alloc, into, u64::from(client))?;
-    append(into, b" ")
+    append(b"> load ", into)?;
+    append_count(alloc, u64::from(client), into)?;
+    append(b" ", into)
 }
 
 /// Appends a load as it stands in the transcript, with its target in UTF-8.
@@ -51,9 +51,9 @@ fn append_message_echo(
 ) -> Result<(), NoMemory>
     ensures { OnOk result (into.new.items ≡ into.old.items ++ (word.now ++ message_name client message ++ line_end)) }
 {
-    append(into, word)?;
+    append(word, into)?;
     append_name(alloc, into, client, message)?;
-    append(into, b"\n")
+    append(b"\n", into)
 }
 
 /// Appends a command as it stands in the transcript.
@@ -81,9 +81,9 @@ fn append_kind(into: &mut Vec<u8>, is_reply: bool) -> Result<(), NoMemory>
     ensures { OnOk result (into.new.items ≡ into.old.items ++ kind_word is_reply) }
 {
     if is_reply {
-        append(into, b" reply ")
+        append(b" reply ", into)
     } else {
-        append(into, b" request ")
+        append(b" request ", into)
     }
 }
 
@@ -96,7 +96,7 @@ fn append_entry_head(
 ) -> Result<(), NoMemory>
     ensures { OnOk result (into.new.items ≡ into.old.items ++ entry_head client message is_reply) }
 {
-    append(into, b"message ")?;
+    append(b"message ", into)?;
     append_name(alloc, into, client, message)?;
     append_kind(into, is_reply)
 }
@@ -104,8 +104,8 @@ fn append_entry_head(
 fn append_number_line(alloc: Global, into: &mut Vec<u8>, number: u64) -> Result<(), NoMemory>
     ensures { OnOk result (into.new.items ≡ into.old.items ++ (decimal number ++ line_end)) }
 {
-    append_number(alloc, into, number)?;
-    append(into, b"\n")
+    append_count(alloc, number, into)?;
+    append(b"\n", into)
 }
 
 /// Appends the entry of a message that is sent, with its length in bytes.
@@ -127,9 +127,9 @@ pub fn append_entry(
 fn append_page_line(alloc: Global, into: &mut Vec<u8>, number: u64) -> Result<(), NoMemory>
     ensures { OnOk result (into.new.items ≡ into.old.items ++ page_line number) }
 {
-    append(into, b"page ")?;
-    append_number(alloc, into, number)?;
-    append(into, b" 2\nelement 1 0 p\ntext 2 1 \"")
+    append(b"page ", into)?;
+    append_count(alloc, number, into)?;
+    append(b" 2\nelement 1 0 p\ntext 2 1 \"", into)
 }
 
 fn append_page_lines(
@@ -141,16 +141,16 @@ fn append_page_lines(
     ensures { OnOk result (into.new.items ≡ into.old.items ++ page_lines number text.now) }
 {
     append_page_line(alloc, into, number)?;
-    append(into, text)?;
-    append(into, b"\"\n")
+    append(text, into)?;
+    append(b"\"\n", into)
 }
 
 fn append_failure(into: &mut Vec<u8>, failure: Failure) -> Result<(), NoMemory>
     ensures { OnOk result (into.new.items ≡ into.old.items ++ failure_line failure) }
 {
     match failure {
-        Failure::BadRequest => append(into, b"failed 400 \"bad request\"\n"),
-        Failure::NotFound => append(into, b"failed 404 \"no such service\"\n"),
+        Failure::BadRequest => append(b"failed 400 \"bad request\"\n", into),
+        Failure::NotFound => append(b"failed 404 \"no such service\"\n", into),
     }
 }
 
@@ -171,7 +171,7 @@ pub fn append_reply_lines(
             None => Err(NoMemory),
         },
         Some(Reply::Failure(failure)) => append_failure(into, *failure),
-        None => append(into, b"unreadable\n"),
+        None => append(b"unreadable\n", into),
     }
 }
 
@@ -180,9 +180,9 @@ pub fn append_skip(into: &mut Vec<u8>, is_known: bool) -> Result<(), NoMemory>
     ensures { OnOk result (into.new.items ≡ into.old.items ++ skip_line is_known) }
 {
     if is_known {
-        append(into, b"skip no-message\n")
+        append(b"skip no-message\n", into)
     } else {
-        append(into, b"skip no-client\n")
+        append(b"skip no-client\n", into)
     }
 }
 
@@ -190,6 +190,6 @@ pub fn append_skip(into: &mut Vec<u8>, is_known: bool) -> Result<(), NoMemory>
 pub fn append_end(alloc: Global, into: &mut Vec<u8>, count: u64) -> Result<(), NoMemory>
     ensures { OnOk result (into.new.items ≡ into.old.items ++ end_line count) }
 {
-    append(into, b"end ")?;
+    append(b"end ", into)?;
     append_number_line(alloc, into, count)
 }

@@ -11,8 +11,8 @@ use crate::application::Small;
 use crate::message::{Asked, Failure, Reply};
 use crate::name::{same_bytes, target_fits};
 use crate::plain::{paragraph_fits, plain_text};
-use crate::writing::{BAD_REQUEST, NOT_FOUND, append, write_load_of, write_page};
-use mt_tree::NoMemory;
+use crate::writing::{BAD_REQUEST, NOT_FOUND, write_load_of, write_page};
+use mt_tree::{NoMemory, append};
 use std::alloc::Global;
 
 /// What stands between a front of so many bytes and a back of so many.
@@ -46,8 +46,8 @@ fn is_service(alloc: Global, target: &[u8], service: &[u8]) -> Result<bool, NoMe
     ensures { IfOk result (λ same. same ≡ bytes_eq target.now (hop ++ service.now)) }
 {
     let mut expected = Vec::new(alloc);
-    append(&mut expected, b"/hop/")?;
-    append(&mut expected, service)?;
+    append(b"/hop/", &mut expected)?;
+    append(service, &mut expected)?;
     Ok(same_bytes(target, &expected))
 }
 

@@ -6,18 +6,18 @@ use std::test::Fail;
 fn repeated(alloc: Global, bytes: &[u8], count: usize) -> Result<Vec<u8>, NoMemory> {
     let mut all = Vec::new(alloc);
     for _ in 0..count {
-        append(&mut all, bytes)?;
+        append(bytes, &mut all)?;
     }
     Ok(all)
 }
 
 fn application(alloc: Global, name: &[u8], text: &[u8]) -> Result<Vec<u8>, NoMemory> {
     let mut bytes = Vec::new(alloc);
-    append(&mut bytes, b"service ")?;
-    append(&mut bytes, name)?;
-    append(&mut bytes, b"() { return <p>")?;
-    append(&mut bytes, text)?;
-    append(&mut bytes, b"</p>; }")?;
+    append(b"service ", &mut bytes)?;
+    append(name, &mut bytes)?;
+    append(b"() { return <p>", &mut bytes)?;
+    append(text, &mut bytes)?;
+    append(b"</p>; }", &mut bytes)?;
     Ok(bytes)
 }
 
@@ -160,7 +160,7 @@ fn lines_of_a_schedule(rt: HostRuntime) -> Result<(), Fail> {
     let alloc = rt.alloc();
     let mut bytes = repeated(alloc, b"#\n", 20_000)?;
     assert_eq!(rt; bad_line(alloc, &bytes), None);
-    append(&mut bytes, b"#")?;
+    append(b"#", &mut bytes)?;
     assert_eq!(rt;
         bad_line(alloc, &bytes),
         Some(SmallLineRefusal::BadLine(20_001))

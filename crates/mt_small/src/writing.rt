@@ -2,24 +2,8 @@ ghost use Rattle.std.specs.Prelude.{◌≡◌, ◌≤◌, ◌++◌, OnOk, decima
 ghost use Rattle.mt_small.specs.Wire.{load_back, load_wire, page_front, page_middle, page_head, page_wire, not_found_wire, bad_request_wire, failure_wire, reply_wire, IsShort};
 
 use crate::message::{Failure, Reply};
-use mt_tree::{NoMemory, Text};
+use mt_tree::{NoMemory, Text, append, append_count};
 use std::alloc::Global;
-
-/// Appends the bytes. An `Err` says that memory ran out.
-pub fn append(into: &mut Vec<u8>, bytes: &[u8]) -> Result<(), NoMemory>
-    ensures { OnOk result (into.new.items ≡ into.old.items ++ bytes.now) }
-{
-    into.extend_from_slice(bytes)?;
-    Ok(())
-}
-
-/// Appends a number in decimal digits, without leading zeros. An `Err` says that memory ran out.
-pub fn append_number(alloc: Global, into: &mut Vec<u8>, number: u64) -> Result<(), NoMemory>
-    ensures { OnOk result (into.new.items ≡ into.old.items ++ decimal number) }
-{
-    let digits = number.to_string(alloc)?;
-    append(into, digits.as_bytes())
-}
 
 /// Appends the request for the page of this target: a `GET` request of HTTP/1.1 (RFC 9112) with the fields
 /// `Host: localhost` and `Connection: close` and no body. The target stands in it as its UTF-8 bytes. An `Err` says that
@@ -34,8 +18,8 @@ pub fn write_load(target: &Text, into: &mut Vec<u8>) -> Result<(), NoMemory>
 pub fn write_load_of(target: &[u8], into: &mut Vec<u8>) -> Result<(), NoMemory>
     ensures { OnOk result (into.new.items ≡ into.old.items ++ load_wire target.now) }
 {
-    append(into, b"GET ")?;
-    append(into, target)?;
+    append(b"GET ", into)?;
+    append(target, into)?;
     append_load_back(into)
 }
 
@@ -43,27 +27,21 @@ pub fn write_load_of(target: &[u8], into: &mut Vec<u8>) -> Result<(), NoMemory>
 fn append_load_back(into: &mut Vec<u8>) -> Result<(), NoMemory>
     ensures { OnOk result (into.new.items ≡ into.old.items ++ load_back) }
 {
-    append(
-        into,
-        b" HTTP/1.1\r\nHost: localhost\r\nConnection: close\r\n\r\n",
-    )
+    append(b" HTTP/1.1\r\nHost: localhost\r\nConnection: close\r\n\r\n", into)
 }
 
 #[tactic(auto, unfolding(crate::specs::Wire::page_front))]
 fn append_page_front(into: &mut Vec<u8>) -> Result<(), NoMemory>
     ensures { OnOk result (into.new.items ≡ into.old.items ++ page_front) }
 {
-    append(
-        into,
-        b"HTTP/1.1 200 OK\r\nContent-Type: text/html; charset=utf-8\r\nContent-Length: ",
-    )
+    append(b"HTTP/1.1 200 OK\r\nContent-Type: text/html; charset=utf-8\r\nContent-Length: ", into)
 }
 
 #[tactic(auto, unfolding(crate::specs::Wire::page_middle))]
 fn append_page_middle(into: &mut Vec<u8>) -> Result<(), NoMemory>
     ensures { OnOk result (into.new.items ≡ into.old.items ++ page_middle) }
 {
-    append(into, b"\r\nConnection: close\r\n\r\n<!DOCTYPE html><p>")
+    append(b"\r\nConnection: close\r\n\r\n<!DOCTYPE html><p>", into)
 }
 
 fn append_page_head(alloc: Global, into: &mut Vec<u8>, size: u64) -> Result<(), NoMemory>
@@ -71,7 +49,7 @@ fn append_page_head(alloc: Global, into: &mut Vec<u8>, size: u64) -> Result<(), 
     ensures { OnOk result (into.new.items ≡ into.old.items ++ page_head size) }
 {
     append_page_front(into)?;
-    append_number(alloc, into, size + 22)?;
+    append_count(alloc, size + 22, into)?;
     append_page_middle(into)
 }
 
@@ -81,8 +59,8 @@ pub fn write_page(alloc: Global, into: &mut Vec<u8>, text: &[u8]) -> Result<(), 
     ensures { OnOk result (into.new.items ≡ into.old.items ++ page_wire text.now) }
 {
     append_page_head(alloc, into, text.len() as u64)?;
-    append(into, text)?;
-    append(into, b"</p>")
+    append(text, into)?;
+    append(b"</p>", into)
 }
 
 /// The reply where no service has the name.
@@ -97,14 +75,14 @@ pub const BAD_REQUEST: &[u8; 119] =
 fn append_not_found(into: &mut Vec<u8>) -> Result<(), NoMemory>
     ensures { OnOk result (into.new.items ≡ into.old.items ++ not_found_wire) }
 {
-    append(into, NOT_FOUND)
+    append(NOT_FOUND, into)
 }
 
 #[tactic(auto, unfolding(crate::specs::Wire::bad_request_wire))]
 fn append_bad_request(into: &mut Vec<u8>) -> Result<(), NoMemory>
     ensures { OnOk result (into.new.items ≡ into.old.items ++ bad_request_wire) }
 {
-    append(into, BAD_REQUEST)
+    append(BAD_REQUEST, into)
 }
 
 fn append_failure(into: &mut Vec<u8>, failure: Failure) -> Result<(), NoMemory>

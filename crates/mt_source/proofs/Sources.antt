@@ -11,8 +11,8 @@ use Rattle.mt_parser.proofs.Few.{same_source}
 use Rattle.mt_parser.specs.declared.refusal.ParseRefusal.{ParseRefusal}
 use Rattle.mt_parser.specs.declared.refusal.ParseRefusal.TheVariants as grammar
 use Rattle.mt_parser.specs.Parsing.{Answers, IsAnswer}
-use Rattle.mt_rules.specs.First.{first_of}
-use Rattle.mt_rules.specs.declared.broken.Broken.{Broken}
+use Rattle.mt_syntax.specs.First.{first_of}
+use Rattle.mt_syntax.specs.declared.broken.Broken.{Broken}
 use Rattle.mt_stage.specs.Accepted.{Refuses, broken_places}
 use Rattle.mt_stage.specs.declared.refusal.StageRefusal.{StageRefusal}
 use Rattle.mt_stage.specs.declared.refusal.StageRefusal.TheVariants as stage

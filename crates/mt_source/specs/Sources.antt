@@ -6,7 +6,7 @@ use Rattle.mt_lexer.specs.Verdict.{Reads}
 use Rattle.mt_marks.specs.Tokens.{tokens_in}
 use Rattle.mt_parser.specs.declared.refusal.ParseRefusal.TheVariants as grammar
 use Rattle.mt_parser.specs.Parsing.{Answers}
-use Rattle.mt_rules.specs.First.{first_of}
+use Rattle.mt_syntax.specs.First.{first_of}
 use Rattle.mt_stage.specs.Accepted.{broken_places}
 use Rattle.mt_stage.specs.declared.refusal.StageRefusal.TheVariants as stage
 use Rattle.mt_syntax.specs.declared.program.Program.{Program}

@@ -12,7 +12,7 @@ use Rattle.mt_builder.specs.declared.tier.Tier.TheVariants as tier
 use Rattle.mt_builder.specs.Found.{Found, within}
 use Rattle.mt_builder.specs.Program.{name_of_title, names_of, key_of, attribute_name, prop_of, attribute_of, decl_made, expr_of, exprs_of, props_of, value_of, attributes_of, child_of, children_of, decl_of, decls_of, optional_of, start_of, stmt_of, stmts_of, nothing_found, program_of}
 use Rattle.mt_builder.specs.Syntax as made
-use Rattle.mt_stage.specs.Texts.{longest_text}
+use Rattle.mt_syntax.specs.Texts.{longest_text}
 use Rattle.mt_source_laws.proofs.Bounds.{least, and_last, and_last_made}
 use Rattle.mt_source_laws.proofs.Marks.{ShortExpr, ShortExprs, ShortProps, ShortAttribute, ShortAttributes, ShortChild, ShortChildren, ShortDecl, ShortDecls, ShortOptional, ShortStart, ShortStmt, ShortStmts}
 use Rattle.mt_source_laws.proofs.Nodes.{in_expr, in_exprs, in_prop, in_value, in_attribute, in_child, in_decl, in_optional, in_start, in_stmt, in_stmts, expr_node, stmt_node, start_node, value_node, child_node, decl_node, prop_node, attribute_node, function_node, markup_node}

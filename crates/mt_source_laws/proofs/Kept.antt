@@ -8,7 +8,7 @@ use Rattle.mt_syntax.specs.declared.tree.Stmt.{Stmt}
 use Rattle.mt_builder.specs.Found.{Found, tilde_made, dollar_made}
 use Rattle.mt_builder.specs.declared.tier.Tier.{Tier}
 use Rattle.mt_builder.specs.declared.tier.Tier.TheVariants as tier
-use Rattle.mt_stage.specs.Texts.{longest_in_tilde}
+use Rattle.mt_syntax.specs.Texts.{longest_in_tilde}
 use Rattle.mt_source_laws.proofs.Bounds.{least, and_last, both_rows}
 use Rattle.mt_source_laws.proofs.Nodes.{in_expr, in_exprs, in_stmts, expr_node}
 

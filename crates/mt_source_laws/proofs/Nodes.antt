@@ -22,7 +22,7 @@ use Rattle.mt_syntax.specs.declared.tree.StmtKind.{roll-StmtKind}
 use Rattle.mt_syntax_laws.proofs.Layers.{map_expr_kind, map_for_start, map_markup_child, map_markup_value, map_stmt_kind}
 use Rattle.mt_syntax_laws.proofs.Related.{on, at_decl, at_expr, at_expr_kind, at_for_start, at_function, at_markup, at_markup_attribute, at_markup_child, at_markup_value, at_prop, at_stmt, at_stmt_kind}
 use Rattle.mt_builder.specs.Syntax as made
-use Rattle.mt_stage.specs.Texts.{comparing, length_of_name, length_of_own_name, longest_in_expr_kind, longest_in_markup_child, longest_in_markup_value, longest_in_stmt_kind, measuring_texts}
+use Rattle.mt_syntax.specs.Texts.{comparing, length_of_name, length_of_own_name, longest_in_expr_kind, longest_in_markup_child, longest_in_markup_value, longest_in_stmt_kind, measuring_texts}
 
 abbrev pub in_expr : Expr → ℕ
 in_expr = on_expr measuring_texts

@@ -22,7 +22,7 @@ use Rattle.mt_marks.specs.Values.{name_of, text_of, quoted_of, child_text_of}
 use Rattle.mt_marks.proofs.Units.{name-units, text-units, quoted-units, child_text-units}
 use Rattle.mt_builder.specs.Program.{name_of_title, names_of, key_of, attribute_name}
 use Rattle.mt_builder.specs.Syntax as made
-use Rattle.mt_stage.specs.Texts.{length_of_name, length_of_own_name}
+use Rattle.mt_syntax.specs.Texts.{length_of_name, length_of_own_name}
 use Rattle.mt_source_laws.proofs.Bounds.{least, and_last}
 use Rattle.mt_source_laws.proofs.Marks.{ShortMark, ShortTitle, ShortKey, ShortNames, ShortAttribute}
 use Rattle.mt_source_laws.proofs.Nodes.{in_expr, in_function, in_optional, in_start, in_stmt, expr_node, stmt_node, start_node}

@@ -4,7 +4,7 @@ use Rattle.mt_tree.specs.declared.place.Place.{Place}
 use Rattle.mt_lexer.specs.Tokens.{Spelled}
 use Rattle.mt_marks.specs.Tokens.{tokens_in}
 use Rattle.mt_parser.specs.Parsing.{Answers}
-use Rattle.mt_stage.specs.Texts.{longest_text}
+use Rattle.mt_syntax.specs.Texts.{longest_text}
 use Rattle.mt_syntax.specs.declared.program.Program.{Program}
 use Rattle.mt_source_laws.proofs.Tokens.{tokens_short}
 use Rattle.mt_source_laws.proofs.Derived.{program_short}

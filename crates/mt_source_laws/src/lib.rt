@@ -15,8 +15,8 @@ ghost use Rattle.mt_lexer.specs.Tokens.{Spelled};
 ghost use Rattle.mt_lexer.specs.Verdict.{Reads};
 ghost use Rattle.mt_marks.specs.Tokens.{tokens_in};
 ghost use Rattle.mt_parser.specs.Parsing.{Answers};
-ghost use Rattle.mt_stage.specs.Accepted.{IsWithinLimits};
-ghost use Rattle.mt_stage.specs.Texts.{longest_text};
+ghost use Rattle.mt_syntax.specs.ProgramLimits.{IsWithinLimits};
+ghost use Rattle.mt_syntax.specs.Texts.{longest_text};
 ghost use Rattle.mt_syntax.specs.declared.program.Program.{Program};
 
 use mt_parser_laws::{parsed_program_is_derived, parsed_program_is_not_too_deep};

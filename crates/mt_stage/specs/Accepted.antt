@@ -1,16 +1,14 @@
 -- Which programs are accepted, and where others are refused.
-use Rattle.std.specs.Prelude.{◌≡◌, ◌≤◌, ◌++◌, List, [], Some, Contains, ⊤}
+use Rattle.std.specs.Prelude.{◌≡◌, ◌++◌, List, [], Some, Contains, ⊤}
 use Rattle.mt_tree.specs.declared.place.Place.{Place}
-use Rattle.mt_rules.specs.First.{first_of}
-use Rattle.mt_rules.specs.declared.broken.Broken.{Broken}
-use Rattle.mt_rules.specs.declared.rule.Rule.{Rule}
-use Rattle.mt_syntax.specs.Depth.{depth_of_program}
-use Rattle.mt_syntax.specs.Derivation.{IsDerived}
+use Rattle.mt_syntax.specs.First.{first_of}
+use Rattle.mt_syntax.specs.declared.broken.Broken.{Broken}
+use Rattle.mt_syntax.specs.declared.rule.Rule.{Rule}
+use Rattle.mt_syntax.specs.ProgramLimits.{IsWithinLimits}
 use Rattle.mt_syntax.specs.declared.program.Program.{Program}
 use Rattle.mt_placement.specs.Placement.{misplaced}
 use Rattle.mt_declared.specs.Twice.{declared_twice}
 use Rattle.mt_scopes.specs.Misused.{misused_names}
-use Rattle.mt_stage.specs.Texts.{longest_text}
 use Rattle.mt_stage.specs.declared.refusal.StageRefusal.{StageRefusal}
 use Rattle.mt_stage.specs.declared.refusal.StageRefusal.TheVariants as refusal
 
@@ -21,12 +19,6 @@ broken_places p = misplaced p ++ (declared_twice p ++ misused_names p)
 -- the program breaks the rule at the place
 abbrev pub Breaks : Program → Rule → Place → Type 0
 Breaks p r place = Contains (broken_places p) (record { place = place; rule = r })
-
--- what the parser gives of a source within the limits
-pub record IsWithinLimits (p : Program) : Type 0 where
-  pub derived : IsDerived p
-  pub depth : depth_of_program p ≤ 60
-  pub texts : longest_text p ≤ 1048576
 
 pub record IsAccepted (p : Program) : Type 0 where
   pub within : IsWithinLimits p

@@ -1,18 +1,13 @@
 -- Which client code is within the limits: what a reader of code accepts.
-use Rattle.std.specs.Prelude.{◌≡◌, ◌≤◌, ℕ, List, [], map}
+use Rattle.std.specs.Prelude.{◌≡◌, ◌≤◌, ℕ, List, []}
 use Rattle.mt_syntax.specs.Codes.{IsCode}
 use Rattle.mt_syntax.specs.DataLimits.{AreWithinLimits}
-use Rattle.mt_syntax.specs.Depth.{depth_of, greatest}
-use Rattle.mt_syntax.specs.Fold.{on_stmt}
+use Rattle.mt_syntax.specs.Depth.{depth_of}
 use Rattle.mt_syntax.specs.Numbering.{values_of}
 use Rattle.mt_syntax.specs.declared.tree.Stmt.{Stmt}
 use Rattle.mt_placement.specs.Placement.{misplaced_jumps}
 use Rattle.mt_declared.specs.Twice.{twice_in_client}
-use Rattle.mt_stage.specs.Texts.{measuring_texts}
-
--- the length of the longest text in code
-abbrev pub longest_in : List Stmt → ℕ
-longest_in body = greatest (map (on_stmt measuring_texts) body)
+use Rattle.mt_syntax.specs.Texts.{longest_in}
 
 pub record IsCodeWithinLimits (body : List Stmt) : Type 0 where
   pub code : IsCode body

@@ -1,4 +1,3 @@
 pub mod Accepted
 pub mod CodeLimits
 pub mod Services
-pub mod Texts

@@ -1,15 +1,15 @@
 ghost use Rattle.std.specs.Prelude.{◌≡◌, ◌++◌, IfErr, IfOk};
-ghost use Rattle.mt_rules.specs.First.{first_of};
-ghost use Rattle.mt_stage.specs.Accepted.{IsAccepted, IsWithinLimits, Refuses, broken_places};
+ghost use Rattle.mt_syntax.specs.First.{first_of};
+ghost use Rattle.mt_stage.specs.Accepted.{IsAccepted, Refuses, broken_places};
+ghost use Rattle.mt_syntax.specs.ProgramLimits.{IsWithinLimits};
 ghost use Rattle.mt_stage.specs.Services.{services_of};
 
 use crate::refusal::StageRefusal;
 use crate::services::services;
 use mt_declared::declared_twice;
 use mt_placement::first_misplaced;
-use mt_rules::{Broken, earlier};
 use mt_scopes::misused_name;
-use mt_syntax::Program;
+use mt_syntax::{Broken, Program, earlier};
 use mt_tree::{NoMemory, Row, Text};
 use std::alloc::Global;
 use std::marker::Model;

@@ -1,7 +1,7 @@
 ghost use Rattle.std.specs.Prelude.{◌≡◌, false};
 ghost use Rattle.mt_tree.specs.declared.place.Place.{Place};
-ghost use Rattle.mt_rules.specs.First.{comes_before};
-ghost use Rattle.mt_rules.specs.declared.rule.Rule.{Rule};
+ghost use Rattle.mt_syntax.specs.First.{comes_before};
+ghost use Rattle.mt_syntax.specs.declared.rule.Rule.{Rule};
 ghost use Rattle.mt_syntax.specs.declared.program.Program.{Program};
 ghost use Rattle.mt_stage.specs.Accepted.{Breaks, IsAccepted, Refuses};
 ghost use Rattle.mt_stage.specs.declared.refusal.StageRefusal.TheVariants as refusal;

@@ -6,7 +6,7 @@
 //! stand on checked programs.
 //!
 //! `Accepted` in `specs` has the list of broken places of a program and the record of what is known of an accepted one, `CodeLimits` which
-//! client code is within the limits, `Texts` the length of the longest text, and `Services` the names of the services.
+//! client code is within the limits, and `Services` the names of the services.
 #![tactic(auto)]
 
 mod checked;

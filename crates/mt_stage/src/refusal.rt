@@ -1,6 +1,6 @@
 ghost use Rattle.std.specs.Prelude.{◌≡◌};
 
-use mt_rules::Rule;
+use mt_syntax::Rule;
 use mt_tree::{NoMemory, Place};
 
 /// Why a program isn't accepted.

@@ -2,7 +2,7 @@
 use Rattle.std.proofs.Common.{◌≡◌, ℕ, Bool, true, false, List, [], ◌∷◌, Option, None, Some, slice_get, refl, sym, subst}
 use Rattle.mt_tree.specs.declared.data.Data.{Data}
 use Rattle.mt_tree.specs.declared.place.Place.{Place}
-use Rattle.mt_rules.specs.Joining.{all}
+use Rattle.mt_syntax.specs.Joining.{all}
 use Rattle.mt_syntax.specs.Sort.{Sort}
 use Rattle.mt_syntax.specs.Sort as sort
 use Rattle.mt_syntax.specs.Fold.{Every, ExprKindLayer, StmtKindLayer, on_stmt}

@@ -2,7 +2,7 @@
 use Rattle.std.proofs.Common.{◌≡◌, ◌≤◌, ◌++◌, ℕ, List, [], map, flat_map, length, Some, slice_get, sym, subst, arith}
 use Rattle.std.proofs.Math.Nat.{le-max_left, le-max_right}
 use Rattle.mt_tree.specs.declared.data.Data.{Data}
-use Rattle.mt_rules.specs.Joining.{all}
+use Rattle.mt_syntax.specs.Joining.{all}
 use Rattle.mt_syntax.specs.DataLimits.{AreWithinLimits}
 use Rattle.mt_syntax.specs.Depth.{depth_of, greatest}
 use Rattle.mt_syntax.specs.Derivation.{IsDerivedTilde}
@@ -22,8 +22,9 @@ use Rattle.mt_declared.specs.Declarations.{declared_in_file}
 use Rattle.mt_declared.specs.Twice.{declared_twice, twice_at_top, twice_in_client, twice_in_row, twice_in_row_of, twice_in_tilde}
 use Rattle.mt_scopes.specs.Misused.{misused_names}
 use Rattle.mt_stage.specs.Accepted.{IsAccepted}
-use Rattle.mt_stage.specs.CodeLimits.{IsCodeWithinLimits, longest_in}
-use Rattle.mt_stage.specs.Texts.{longest_in_tilde, measuring_texts}
+use Rattle.mt_stage.specs.CodeLimits.{IsCodeWithinLimits}
+use Rattle.mt_syntax.specs.Texts.{longest_in}
+use Rattle.mt_syntax.specs.Texts.{longest_in_tilde, measuring_texts}
 use Rattle.mt_stage_laws.proofs.Empty.{parts_empty}
 use Rattle.mt_stage_laws.proofs.Jumps.{jumps_fit}
 use Rattle.mt_stage_laws.proofs.Names.{names_once}

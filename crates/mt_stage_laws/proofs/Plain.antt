@@ -2,8 +2,8 @@
 use Rattle.std.proofs.Common.{◌≡◌, Bool, true, ◌&&◌, List, [], ◌∷◌, map, Option, None, Some, refl}
 use Rattle.std.proofs.lemmas.Bool.{and_from}
 use Rattle.mt_tree.specs.declared.place.Place.{Place}
-use Rattle.mt_rules.specs.Joining.{all}
-use Rattle.mt_rules.specs.declared.broken.Broken.{Broken}
+use Rattle.mt_syntax.specs.Joining.{all}
+use Rattle.mt_syntax.specs.declared.broken.Broken.{Broken}
 use Rattle.mt_syntax.specs.Sort.{Sort}
 use Rattle.mt_syntax.specs.Sort as sort
 use Rattle.mt_syntax.specs.Codes.{expr_kind_is_plain, is_plain, stmt_kind_is_plain, testing, testing_plain}

@@ -9,8 +9,8 @@ use Rattle.mt_syntax.specs.declared.tree.Mark.{Mark}
 use Rattle.mt_syntax.specs.declared.tree.Stmt.{Stmt}
 use Rattle.mt_syntax.specs.declared.tree.ExprKind.TheOpen.{ExprKind-F, StmtKind-F}
 use Rattle.mt_syntax_laws.proofs.Kept.{AreKept, map_kept, stmt_kept}
-use Rattle.mt_stage.specs.CodeLimits.{longest_in}
-use Rattle.mt_stage.specs.Texts.{length_of_name, longest_in_expr_kind, longest_in_stmt_kind, measuring_texts}
+use Rattle.mt_syntax.specs.Texts.{longest_in}
+use Rattle.mt_syntax.specs.Texts.{length_of_name, longest_in_expr_kind, longest_in_stmt_kind, measuring_texts}
 
 in_function : (name : Option Mark) (parameters : List Mark) (body : List ℕ)
     → measuring_texts.function (record { name = option_map unplaced name; parameters = map unplaced parameters; body = body }) ≡ measuring_texts.function (record { name = name; parameters = parameters; body = body })

@@ -7,14 +7,25 @@
 //! The definitions stand in `specs`, one idea a file, each a function on whole trees that is given by what it makes of one
 //! node (`Fold`): how deep a tree is (`Depth`), what substitution gives (`Substitution`), which programs the grammar derives
 //! (`Derivation`, with `Shape`, `Tiers`, `Numbering` and `Names`), which lists of statements are codes (`Codes`), what data are and how large
-//! (`Data`, `DataLimits`), and the texts of data, code and pages (`DataText`, `CodeText`, `PageText`, `Pages`).
+//! (`Data`, `DataLimits`), the texts of data, code and pages (`DataText`, `CodeText`, `PageText`, `Pages`), and which programs are within
+//! the limits (`Texts`, `ProgramLimits`).
+//!
+//! The stage rules stand here by name ([`Rule`]). A program is refused at its first broken place and, where two rules are broken
+//! there, by the one with the lower number. The first of several broken places doesn't depend on the order in which they are found:
+//! [`earlier`] can join what parts of a program give in any grouping and order.
 #![tactic(auto)]
 
+mod broken;
+mod laws;
 mod program;
+mod rule;
 mod substitution;
 mod tree;
 
+pub use broken::{Broken, earlier};
+pub use laws::{first_broken_is_the_least, first_broken_of_lists, order_of_finding_is_free};
 pub use program::{Code, Program, Tilde};
+pub use rule::Rule;
 pub use substitution::substitute;
 pub use tree::{
     Binary, Decl, Expr, ExprKind, ForStart, Function, Mark, Markup, MarkupAttribute, MarkupChild,

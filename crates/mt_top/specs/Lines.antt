@@ -6,7 +6,7 @@ use Rattle.mt_lexer.specs.declared.refusal.LexRefusal.{LexRefusal}
 use Rattle.mt_lexer.specs.declared.refusal.LexRefusal.TheVariants.{NotUtf8, BadCharacter, BadEscape, Unclosed, NumberTooLarge, TooManyTokens, NoMemory}
 use Rattle.mt_parser.specs.declared.refusal.ParseRefusal.{ParseRefusal}
 use Rattle.mt_parser.specs.declared.refusal.ParseRefusal.TheVariants as grammar
-use Rattle.mt_rules.specs.First.{number_of}
+use Rattle.mt_syntax.specs.First.{number_of}
 use Rattle.mt_stage.specs.declared.refusal.StageRefusal.{StageRefusal}
 use Rattle.mt_stage.specs.declared.refusal.StageRefusal.TheVariants as stage
 use Rattle.mt_source.specs.declared.refusal.SourceRefusal.{SourceRefusal}

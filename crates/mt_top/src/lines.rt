@@ -1,16 +1,15 @@
 ghost use Rattle.std.specs.Prelude.{◌≡◌, ◌++◌, IfOk, OnOk, Err, codes, decimal};
-ghost use Rattle.mt_rules.specs.First.{number_of};
+ghost use Rattle.mt_syntax.specs.First.{number_of};
 ghost use Rattle.mt_top.specs.Lines.{usage_text, accepted_line, failed_line, grammar_line, not_built_line, file_fault_line, too_long_line, bad_line, refused_at, rules_line, spelling_line, started_line};
 ghost use Rattle.mt_source.specs.Sources.{IsOfText};
 ghost use Rattle.mt_source.specs.declared.refusal.SourceRefusal.TheVariants as source;
 
-use mt_json_write::json_text;
+use mt_json::json_text;
 use mt_lexer::LexRefusal;
 use mt_parser::ParseRefusal;
-use mt_rules::Rule;
-use mt_small::{append, append_number};
 use mt_stage::StageRefusal;
-use mt_tree::{NoMemory, Place, Text};
+use mt_syntax::Rule;
+use mt_tree::{NoMemory, Place, Text, append, append_count};
 use std::alloc::Global;
 
 /// What is written where the words are no command.
@@ -42,9 +41,9 @@ pub fn failed_line(alloc: Global, text: &Text) -> Result<Vec<u8>, NoMemory>
     ensures { IfOk result (λ line. line.items ≡ failed_line text.now) }
 {
     let mut line = Vec::new(alloc);
-    append(&mut line, b"start failed: ")?;
+    append(b"start failed: ", &mut line)?;
     json_text(text, &mut line)?;
-    append(&mut line, b"\n")?;
+    append(b"\n", &mut line)?;
     Ok(line)
 }
 
@@ -77,26 +76,26 @@ pub fn bad_schedule_line(alloc: Global, number: u32) -> Result<Vec<u8>, NoMemory
     ensures { IfOk result (λ line. line.items ≡ bad_line number) }
 {
     let mut line = Vec::new(alloc);
-    append(&mut line, b"bad schedule line ")?;
-    append_number(alloc, &mut line, u64::from(number))?;
-    append(&mut line, b"\n")?;
+    append(b"bad schedule line ", &mut line)?;
+    append_count(alloc, u64::from(number), &mut line)?;
+    append(b"\n", &mut line)?;
     Ok(line)
 }
 
 fn append_rule(into: &mut Vec<u8>, rule: &[u8]) -> Result<(), NoMemory>
     ensures { OnOk result (into.new.items ≡ into.old.items ++ (codes "refused " ++ rule.now ++ codes " at ")) }
 {
-    append(into, b"refused ")?;
-    append(into, rule)?;
-    append(into, b" at ")
+    append(b"refused ", into)?;
+    append(rule, into)?;
+    append(b" at ", into)
 }
 
 fn append_place(alloc: Global, into: &mut Vec<u8>, place: Place) -> Result<(), NoMemory>
     ensures { OnOk result (into.new.items ≡ into.old.items ++ (decimal place.line ++ codes ":" ++ decimal place.column)) }
 {
-    append_number(alloc, into, u64::from(place.line))?;
-    append(into, b":")?;
-    append_number(alloc, into, u64::from(place.column))
+    append_count(alloc, u64::from(place.line), into)?;
+    append(b":", into)?;
+    append_count(alloc, u64::from(place.column), into)
 }
 
 fn refused_line(alloc: Global, rule: &[u8], place: Place) -> Result<Vec<u8>, NoMemory>
@@ -105,7 +104,7 @@ fn refused_line(alloc: Global, rule: &[u8], place: Place) -> Result<Vec<u8>, NoM
     let mut line = Vec::new(alloc);
     append_rule(&mut line, rule)?;
     append_place(alloc, &mut line, place)?;
-    append(&mut line, b"\n")?;
+    append(b"\n", &mut line)?;
     Ok(line)
 }
 
@@ -138,8 +137,8 @@ pub fn grammar_line(alloc: Global, refusal: ParseRefusal) -> Result<Vec<u8>, NoM
 fn append_rule_number(alloc: Global, into: &mut Vec<u8>, rule: Rule) -> Result<(), NoMemory>
     ensures { OnOk result (into.new.items ≡ into.old.items ++ (codes "S" ++ decimal (number_of rule))) }
 {
-    append(into, b"S")?;
-    append_number(alloc, into, u64::from(rule.number()))
+    append(b"S", into)?;
+    append_count(alloc, u64::from(rule.number()), into)
 }
 
 /// What is written where a program breaks a rule: the first that it breaks, and the place.

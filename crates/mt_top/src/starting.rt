@@ -7,10 +7,9 @@ use crate::lines::{failed_line, file_fault, not_built, started, too_long};
 use crate::output::write_output;
 use crate::refusing::write_refusal;
 use crate::status::Status;
-use mt_json_write::append;
 use mt_outside::{Files, ReadFault, Sink, read_file};
 use mt_start::Startup;
-use mt_tree::{NoMemory, Text};
+use mt_tree::{NoMemory, Text, append};
 use std::alloc::Global;
 
 /// Starts the application in a file.

@@ -1,4 +1,5 @@
 pub mod Place
 pub mod Tables
 pub mod Text
+pub mod Units
 pub mod formers

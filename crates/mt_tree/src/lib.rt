@@ -6,29 +6,44 @@
 //! with the same contents are the same value, whether or not they share memory. `Text` and `Row` never change and are
 //! shared by counting; nothing here is shared between threads.
 //!
+//! The places in a text are those of the language, which counts units of UTF-16: a character up to U+FFFF is one unit, and each
+//! above it a pair of two. A place inside such a pair is no place between characters, so nothing can be cut there ([`cut`], [`find`]).
+//! [`append`], [`append_number`] and [`append_count`] are what the writers of all texts are made of.
+//!
 //! Each call that takes memory answers [`NoMemory`] where there is none left, and has no other refusal. A call whose
 //! result is no `Result` takes no memory. Syntax trees, the store of values, pages and messages stand on this crate.
 #![tactic(auto)]
 
+mod appending;
 mod boxed;
 mod buffer;
 mod closure;
 mod data;
 mod fault;
+mod first_place;
 mod html;
+mod laws;
 mod list;
+mod number;
+mod part;
 mod place;
 mod row;
 mod tables;
 mod text;
+mod units;
 
+pub use appending::{append, append_count, append_number};
 pub use boxed::Boxed;
 pub use buffer::Buffer;
 pub use closure::Closure;
 pub use data::{Data, Entry};
 pub use fault::NoMemory;
+pub use first_place::find;
 pub use html::{Attribute, AttributeValue, Element, Html};
+pub use laws::{cut_is_between, find_is_first};
 pub use list::push;
+pub use number::decimal_units;
+pub use part::cut;
 pub use place::{Place, Span};
 pub use row::Row;
 pub use tables::{attribute_fits, handler_known, tag_known, tag_void};

@@ -1,27 +1,34 @@
 ghost use Rattle.std.specs.Prelude.{◌≡◌, ◌↔◌, true, IfOk, IsTrue};
 ghost use Rattle.std.specs.Str.{chars, encode_utf8_all, all_scalars};
-ghost use Rattle.mt_tree.specs.Text.{units_in, units_of};
+ghost use Rattle.mt_tree.specs.Text.{units_of};
 
 use crate::fault::NoMemory;
+use crate::units::units;
 use std::alloc::Global;
 use std::marker::Model;
 use std::rc::RcStr;
 
 /// A text that never changes, and whose contents are shared by counting. Contracts see the list of its characters, each a
-/// Unicode scalar value, so a text and those that share its contents are the same value.
+/// Unicode scalar value, so a text and those that share its contents are the same value. Its length in units of UTF-16 is
+/// counted once, when it is made.
 #[derive(Drop)]
 pub struct Text {
     inner: RcStr,
+    units: usize,
 }
 
 impl Model for Text {
     ghost use Rattle.std.specs.Prelude.{List, ℕ};
     ghost use Rattle.std.specs.Str.{chars};
     ghost use Rattle.std.specs.Rc.{rc_str_bytes};
+    ghost use Rattle.std.specs.Prelude.{◌≡◌};
+    ghost use Rattle.mt_tree.specs.Text.{units_of};
 
     ghost Value = { List ℕ };
 
     ghost view = { λ text. chars (rc_str_bytes text.inner) };
+
+    ghost invariant = { λ text. text.units ≡ units_of (chars (rc_str_bytes text.inner)) };
 }
 
 impl Text {
@@ -33,7 +40,10 @@ impl Text {
         ensures { IfOk result (λ made. made ≡ chars text.now) }
     {
         match RcStr::from_str(alloc, text) {
-            Ok(inner) => Ok(Text { inner }),
+            Ok(inner) => Ok(Text {
+                inner,
+                units: units(text),
+            }),
             Err(_refused) => Err(NoMemory),
         }
     }
@@ -69,16 +79,20 @@ impl Text {
         ensures { IfOk result (λ made. made ≡ self.now) }
     {
         match self.inner.clone() {
-            Ok(inner) => Ok(Text { inner }),
+            Ok(inner) => Ok(Text {
+                inner,
+                units: self.units,
+            }),
             Err(_refused) => Err(NoMemory),
         }
     }
 
-    /// The length in units of UTF-16: one for each character up to U+FFFF, and two for each above it. Takes no memory.
+    /// The length in units of UTF-16: one for each character up to U+FFFF, and two for each above it. Takes no memory, and
+    /// the same time however long the text is.
     pub fn units(&self) -> u64
         ensures { result ≡ units_of self.now }
     {
-        text_units(self.as_str())
+        self.units as u64
     }
 }
 
@@ -100,22 +114,4 @@ fn same_text(a: &str, b: &str) -> bool
     ensures { IsTrue result ↔ (chars a.now ≡ chars b.now) }
 {
     a == b
-}
-
-fn text_units(text: &str) -> u64
-    ensures { result ≡ units_of (chars text.now) }
-{
-    // No character takes more units than bytes, so the sum fits.
-    let _bytes = text.len();
-    let mut units: u64 = 0;
-    for c in text.chars() {
-        units += char_units(c);
-    }
-    units
-}
-
-fn char_units(c: char) -> u64
-    ensures { result ≡ units_in c }
-{
-    if (c as u32) < 0x1_0000 { 1 } else { 2 }
 }

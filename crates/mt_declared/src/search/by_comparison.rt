@@ -1,5 +1,5 @@
 ghost use Rattle.std.specs.Prelude.{◌≡◌, map, option_map};
-ghost use Rattle.mt_rules.specs.First.{first_of};
+ghost use Rattle.mt_syntax.specs.First.{first_of};
 ghost use Rattle.mt_syntax.specs.Fold.{on_decl, on_stmt_kind};
 ghost use Rattle.mt_declared.specs.Declarations.{declarations, declared, declaring, names_in};
 ghost use Rattle.mt_declared.specs.Repeated.{repeated, repeated_behind, twice_at};
@@ -11,8 +11,7 @@ use crate::kinds::Kinds;
 use crate::predicate::Predicate;
 use crate::repeated::twice_at;
 use crate::search::Search;
-use mt_rules::{Broken, earlier};
-use mt_syntax::{Decl, Mark, Stmt, StmtKind, VarKind};
+use mt_syntax::{Broken, Decl, Mark, Stmt, StmtKind, VarKind, earlier};
 use mt_tree::Row;
 use std::convert::Infallible;
 

@@ -1,5 +1,5 @@
 ghost use Rattle.std.specs.Prelude.{◌≡◌, [], ◌∷◌, if◌then◌else◌, IfOk};
-ghost use Rattle.mt_rules.specs.First.{first_of};
+ghost use Rattle.mt_syntax.specs.First.{first_of};
 ghost use Rattle.mt_declared.specs.Declarations.{declaration};
 ghost use Rattle.mt_declared.specs.Repeated.{repeated, clashes_with, twice_at};
 
@@ -8,8 +8,7 @@ use crate::names::{declare_all, declared_here};
 use crate::repeated::twice_at;
 use crate::search::Search;
 use crate::table::Table;
-use mt_rules::{Broken, earlier};
-use mt_syntax::{Mark, Stmt};
+use mt_syntax::{Broken, Mark, Stmt, earlier};
 use mt_tree::{NoMemory, Row};
 use std::alloc::Global;
 

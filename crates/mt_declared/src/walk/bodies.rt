@@ -1,5 +1,5 @@
 ghost use Rattle.std.specs.Prelude.{◌≡◌, ◌∷◌, map, IfOk};
-ghost use Rattle.mt_rules.specs.First.{first_of};
+ghost use Rattle.mt_syntax.specs.First.{first_of};
 ghost use Rattle.mt_syntax.specs.Fold.{on_stmt, on_stmt_kind};
 ghost use Rattle.mt_declared.specs.Declarations.{declaration, declared, declaring};
 ghost use Rattle.mt_declared.specs.Repeated.{repeated};
@@ -7,8 +7,7 @@ ghost use Rattle.mt_declared.specs.Twice.{first_twice, twice_in_body, twice_in_c
 
 use crate::declaration::DeclarationKind;
 use crate::search::Search;
-use mt_rules::Broken;
-use mt_syntax::{Mark, Stmt, StmtKind};
+use mt_syntax::{Broken, Mark, Stmt, StmtKind};
 use mt_tree::Row;
 use std::slice::from_ref;
 

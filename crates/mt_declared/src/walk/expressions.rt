@@ -1,5 +1,5 @@
 ghost use Rattle.std.specs.Prelude.{◌≡◌, map, option_map, None, IfOk};
-ghost use Rattle.mt_rules.specs.First.{earlier_of};
+ghost use Rattle.mt_syntax.specs.First.{earlier_of};
 ghost use Rattle.mt_syntax.specs.Fold.{on_expr, on_expr_kind, on_function, on_prop};
 ghost use Rattle.mt_declared.specs.Parts.{found_in, optional_found};
 ghost use Rattle.mt_declared.specs.Twice.{first_twice};
@@ -8,8 +8,7 @@ use crate::search::Search;
 use crate::walk::bodies::body;
 use crate::walk::markup::markup;
 use crate::walk::statements::stmts;
-use mt_rules::{Broken, earlier};
-use mt_syntax::{Expr, ExprKind, Function, Prop};
+use mt_syntax::{Broken, Expr, ExprKind, Function, Prop, earlier};
 use mt_tree::Row;
 
 #[cycle(walk)]

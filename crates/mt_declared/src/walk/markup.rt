@@ -1,13 +1,12 @@
 ghost use Rattle.std.specs.Prelude.{◌≡◌, map, None, IfOk};
-ghost use Rattle.mt_rules.specs.First.{earlier_of};
+ghost use Rattle.mt_syntax.specs.First.{earlier_of};
 ghost use Rattle.mt_syntax.specs.Fold.{on_markup, on_markup_attribute, on_markup_child, on_markup_value};
 ghost use Rattle.mt_declared.specs.Parts.{found_in};
 ghost use Rattle.mt_declared.specs.Twice.{first_twice};
 
 use crate::search::Search;
 use crate::walk::expressions::expr;
-use mt_rules::{Broken, earlier};
-use mt_syntax::{Markup, MarkupAttribute, MarkupChild, MarkupValue};
+use mt_syntax::{Broken, Markup, MarkupAttribute, MarkupChild, MarkupValue, earlier};
 use mt_tree::Row;
 
 #[cycle(walk)]

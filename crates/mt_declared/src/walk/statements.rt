@@ -1,5 +1,5 @@
 ghost use Rattle.std.specs.Prelude.{◌≡◌, map, option_map, None, IfOk};
-ghost use Rattle.mt_rules.specs.First.{earlier_of};
+ghost use Rattle.mt_syntax.specs.First.{earlier_of};
 ghost use Rattle.mt_syntax.specs.Fold.{on_decl, on_for_start, on_stmt, on_stmt_kind};
 ghost use Rattle.mt_declared.specs.Parts.{found_in, optional_found};
 ghost use Rattle.mt_declared.specs.Twice.{first_twice};
@@ -7,8 +7,7 @@ ghost use Rattle.mt_declared.specs.Twice.{first_twice};
 use crate::search::Search;
 use crate::walk::bodies::{body, catch};
 use crate::walk::expressions::{expr, function, optional_expr};
-use mt_rules::{Broken, earlier};
-use mt_syntax::{Decl, ForStart, Stmt, StmtKind};
+use mt_syntax::{Broken, Decl, ForStart, Stmt, StmtKind, earlier};
 use mt_tree::{Boxed, Row};
 
 #[cycle(walk)]

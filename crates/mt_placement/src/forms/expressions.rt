@@ -1,13 +1,12 @@
 ghost use Rattle.std.specs.Prelude.{◌≡◌, IfOk};
-ghost use Rattle.mt_rules.specs.Joining.{first};
+ghost use Rattle.mt_syntax.specs.Joining.{first};
 ghost use Rattle.mt_syntax.specs.Fold.{on_expr, on_expr_kind, on_function, on_prop};
 ghost use Rattle.mt_placement.specs.Forms.{finding_forms, in_each, in_optional};
 
 use crate::forms::markup::markup;
 use crate::forms::site::{Scene, Site, broken_if};
 use crate::forms::statements::stmts;
-use mt_rules::{Broken, Rule, earlier};
-use mt_syntax::{Expr, ExprKind, Function, Prop};
+use mt_syntax::{Broken, Expr, ExprKind, Function, Prop, Rule, earlier};
 use mt_tree::{NoMemory, Row};
 use std::alloc::Global;
 

@@ -1,13 +1,12 @@
 ghost use Rattle.std.specs.Prelude.{◌≡◌, IfOk};
-ghost use Rattle.mt_rules.specs.Joining.{first};
+ghost use Rattle.mt_syntax.specs.Joining.{first};
 ghost use Rattle.mt_syntax.specs.Fold.{on_markup, on_markup_attribute, on_markup_child, on_markup_value};
 ghost use Rattle.mt_placement.specs.Forms.{finding_forms, in_each};
 
 use crate::forms::expressions::expr;
 use crate::forms::repeats::repeated;
 use crate::forms::site::{Site, broken_if};
-use mt_rules::{Broken, Rule, earlier};
-use mt_syntax::{Markup, MarkupAttribute, MarkupChild, MarkupValue};
+use mt_syntax::{Broken, Markup, MarkupAttribute, MarkupChild, MarkupValue, Rule, earlier};
 use mt_tree::{NoMemory, Row, attribute_fits, tag_known};
 use std::alloc::Global;
 

@@ -1,12 +1,11 @@
 ghost use Rattle.std.specs.Prelude.{◌≡◌, [], map, IfOk};
-ghost use Rattle.mt_rules.specs.Joining.{first};
+ghost use Rattle.mt_syntax.specs.Joining.{first};
 ghost use Rattle.mt_syntax.specs.Fold.{on_markup_attribute};
 ghost use Rattle.mt_placement.specs.Forms.{finding_forms, names_of, repeated_behind};
 
 use crate::forms::site::broken_if;
 use indexmap::IndexSet;
-use mt_rules::{Broken, Rule, earlier};
-use mt_syntax::{Mark, MarkupAttribute};
+use mt_syntax::{Broken, Mark, MarkupAttribute, Rule, earlier};
 use mt_tree::NoMemory;
 use std::alloc::Global;
 

@@ -1,10 +1,9 @@
 ghost use Rattle.std.specs.Prelude.{◌≡◌};
 ghost use Rattle.std.specs.Str.{encode_utf8_all};
-ghost use Rattle.mt_rules.specs.Joining.{first};
+ghost use Rattle.mt_syntax.specs.Joining.{first};
 ghost use Rattle.mt_placement.specs.Forms.{at_attribute, at_node, below, broken_if, in_dollar};
 
-use mt_rules::{Broken, Rule};
-use mt_syntax::Mark;
+use mt_syntax::{Broken, Mark, Rule};
 use mt_tree::{Place, handler_known};
 
 /// The code that a part of a program stands in.

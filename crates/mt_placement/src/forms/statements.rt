@@ -1,12 +1,11 @@
 ghost use Rattle.std.specs.Prelude.{◌≡◌, IfOk};
-ghost use Rattle.mt_rules.specs.Joining.{first};
+ghost use Rattle.mt_syntax.specs.Joining.{first};
 ghost use Rattle.mt_syntax.specs.Fold.{on_decl, on_for_start, on_stmt, on_stmt_kind};
 ghost use Rattle.mt_placement.specs.Forms.{finding_forms, in_each, in_optional};
 
 use crate::forms::expressions::{expr, function, value};
 use crate::forms::site::{Scene, Site, broken_if};
-use mt_rules::{Broken, Rule, earlier};
-use mt_syntax::{Decl, ForStart, Stmt, StmtKind};
+use mt_syntax::{Broken, Decl, ForStart, Rule, Stmt, StmtKind, earlier};
 use mt_tree::{Boxed, NoMemory, Row};
 use std::alloc::Global;
 

@@ -1,8 +1,8 @@
 ghost use Rattle.std.specs.Prelude.{◌≡◌};
 ghost use Rattle.mt_placement.specs.Jumps.{at_node, in_function, in_loop, broken_unless};
-ghost use Rattle.mt_rules.specs.Joining.{first};
+ghost use Rattle.mt_syntax.specs.Joining.{first};
 
-use mt_rules::{Broken, Rule};
+use mt_syntax::{Broken, Rule};
 use mt_tree::Place;
 
 /// What stands around a part of a program, up to the whole body that it is part of.

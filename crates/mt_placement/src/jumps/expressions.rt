@@ -1,13 +1,12 @@
 ghost use Rattle.std.specs.Prelude.{◌≡◌};
-ghost use Rattle.mt_rules.specs.Joining.{first};
+ghost use Rattle.mt_syntax.specs.Joining.{first};
 ghost use Rattle.mt_syntax.specs.Fold.{on_expr, on_expr_kind, on_function, on_prop};
 ghost use Rattle.mt_placement.specs.Jumps.{finding_jumps, in_each, in_optional};
 
 use crate::jumps::around::Around;
 use crate::jumps::markup::markup;
 use crate::jumps::statements::stmts;
-use mt_rules::{Broken, earlier};
-use mt_syntax::{Expr, ExprKind, Function, Prop};
+use mt_syntax::{Broken, Expr, ExprKind, Function, Prop, earlier};
 use mt_tree::Row;
 
 #[cycle(jumps)]

@@ -1,12 +1,11 @@
 ghost use Rattle.std.specs.Prelude.{◌≡◌};
-ghost use Rattle.mt_rules.specs.Joining.{first};
+ghost use Rattle.mt_syntax.specs.Joining.{first};
 ghost use Rattle.mt_syntax.specs.Fold.{on_markup, on_markup_attribute, on_markup_child, on_markup_value};
 ghost use Rattle.mt_placement.specs.Jumps.{finding_jumps, in_each};
 
 use crate::jumps::around::Around;
 use crate::jumps::expressions::expr;
-use mt_rules::{Broken, earlier};
-use mt_syntax::{Markup, MarkupAttribute, MarkupChild, MarkupValue};
+use mt_syntax::{Broken, Markup, MarkupAttribute, MarkupChild, MarkupValue, earlier};
 use mt_tree::Row;
 
 #[cycle(jumps)]

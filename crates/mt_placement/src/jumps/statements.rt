@@ -1,12 +1,11 @@
 ghost use Rattle.std.specs.Prelude.{◌≡◌};
-ghost use Rattle.mt_rules.specs.Joining.{first};
+ghost use Rattle.mt_syntax.specs.Joining.{first};
 ghost use Rattle.mt_syntax.specs.Fold.{on_decl, on_for_start, on_stmt, on_stmt_kind};
 ghost use Rattle.mt_placement.specs.Jumps.{finding_jumps, in_each, in_optional};
 
 use crate::jumps::around::Around;
 use crate::jumps::expressions::{expr, function, value};
-use mt_rules::{Broken, earlier};
-use mt_syntax::{Decl, ForStart, Stmt, StmtKind};
+use mt_syntax::{Broken, Decl, ForStart, Stmt, StmtKind, earlier};
 use mt_tree::{Boxed, Row};
 
 #[cycle(jumps)]

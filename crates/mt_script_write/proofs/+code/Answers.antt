@@ -1,7 +1,7 @@
 use Rattle.std.proofs.Common.{◌≡◌, ◌++◌, codes, refl, subst, append_assoc}
 use Rattle.std.specs.List.{flat_map}
 use Rattle.std.specs.Prelude.{OnOk}
-use Rattle.mt_json_write.proofs.Separated.{grown}
+use Rattle.mt_json.proofs.Separated.{grown}
 use Rattle.mt_script_write.proofs.Nodes.{of_block, of_for, of_function, of_try}
 use Rattle.mt_script_write.specs.Written.{decl_written, expr_written, function_written, prop_written, stmt_kind_written, stmt_written}
 use Rattle.mt_script_write.proofs.+code.Goals as goal

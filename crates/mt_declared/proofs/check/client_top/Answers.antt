@@ -1,6 +1,6 @@
 use Rattle.std.proofs.Common.{◌∙◌, sym, ap}
-use Rattle.mt_rules.specs.First.{earlier_of, first_of}
-use Rattle.mt_rules.proofs.Order.{first_of_lists}
+use Rattle.mt_syntax.specs.First.{earlier_of, first_of}
+use Rattle.mt_syntax.proofs.Order.{first_of_lists}
 use Rattle.mt_declared.specs.Declarations.{declared_in_tilde}
 use Rattle.mt_declared.specs.Repeated.{builtins_in, repeated}
 use Rattle.mt_declared.proofs.check.client_top.Goals as goal

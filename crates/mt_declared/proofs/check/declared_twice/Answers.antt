@@ -1,6 +1,6 @@
 use Rattle.std.proofs.Common.{◌++◌, flat_map, ap, ◌∙◌, sym}
-use Rattle.mt_rules.specs.First.{earlier_of, first_of}
-use Rattle.mt_rules.proofs.Order.{first_of_lists}
+use Rattle.mt_syntax.specs.First.{earlier_of, first_of}
+use Rattle.mt_syntax.proofs.Order.{first_of_lists}
 use Rattle.mt_declared.specs.Declarations.{declared_in_file}
 use Rattle.mt_declared.specs.Twice.{twice_at_top, twice_in_row, twice_in_tilde}
 use Rattle.mt_declared.proofs.Counts.{first_in_row}

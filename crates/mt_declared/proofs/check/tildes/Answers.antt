@@ -1,5 +1,5 @@
 use Rattle.std.proofs.Common.{◌∙◌}
-use Rattle.mt_rules.specs.First.{earlier_of}
+use Rattle.mt_syntax.specs.First.{earlier_of}
 use Rattle.mt_declared.specs.Twice.{twice_in_tilde}
 use Rattle.mt_declared.proofs.Rows.{first_next}
 use Rattle.mt_declared.proofs.check.tildes.Goals as goal

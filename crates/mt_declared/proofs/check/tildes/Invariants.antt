@@ -1,5 +1,5 @@
 use Rattle.std.proofs.Common.{◌≡◌, flat_map, take}
-use Rattle.mt_rules.specs.First.{first_of}
+use Rattle.mt_syntax.specs.First.{first_of}
 use Rattle.mt_declared.specs.Twice.{twice_in_tilde}
 use Rattle.mt_declared.proofs.check.tildes.Given as goal
 

@@ -1,5 +1,5 @@
 use Rattle.std.proofs.Common.{◌≡◌, map, take}
-use Rattle.mt_rules.specs.First.{first_of}
+use Rattle.mt_syntax.specs.First.{first_of}
 use Rattle.mt_declared.specs.Declarations.{declared, variables_in}
 use Rattle.mt_declared.specs.Repeated.{where_holding}
 use Rattle.mt_declared.proofs.first.+variables.Given as goal

@@ -1,5 +1,5 @@
 use Rattle.std.proofs.Common.{◌∙◌, map}
-use Rattle.mt_rules.specs.First.{earlier_of}
+use Rattle.mt_syntax.specs.First.{earlier_of}
 use Rattle.mt_syntax.specs.Fold.{on_decl}
 use Rattle.mt_declared.specs.Declarations.{declarations, declaring, names_in}
 use Rattle.mt_declared.proofs.Holding.{decls_more, with_part}

@@ -1,5 +1,5 @@
 use Rattle.std.proofs.Common.{◌≡◌, take}
-use Rattle.mt_rules.specs.First.{first_of}
+use Rattle.mt_syntax.specs.First.{first_of}
 use Rattle.mt_declared.specs.Repeated.{where_holding}
 use Rattle.mt_declared.proofs.first.in_list.Given as goal
 

@@ -1,5 +1,5 @@
 use Rattle.std.proofs.Common.{◌∙◌, [], ◌∷◌}
-use Rattle.mt_rules.specs.First.{earlier_of}
+use Rattle.mt_syntax.specs.First.{earlier_of}
 use Rattle.mt_declared.specs.Declarations.{declaration, declarations}
 use Rattle.mt_declared.proofs.Holding.{marks_more, with_part}
 use Rattle.mt_declared.proofs.first.in_marks.Goals as goal

@@ -1,5 +1,5 @@
 use Rattle.std.proofs.Common.{◌∙◌, map}
-use Rattle.mt_rules.specs.First.{earlier_of}
+use Rattle.mt_syntax.specs.First.{earlier_of}
 use Rattle.mt_declared.specs.Declarations.{declared, here_in}
 use Rattle.mt_declared.proofs.Holding.{here_more, with_part}
 use Rattle.mt_declared.proofs.first.in_statements.Goals as goal

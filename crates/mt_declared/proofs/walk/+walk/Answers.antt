@@ -1,5 +1,5 @@
 use Rattle.std.proofs.Common.{◌≡◌, ◌∙◌, ap, sym, Option, None, Some}
-use Rattle.mt_rules.specs.First.{earlier_of}
+use Rattle.mt_syntax.specs.First.{earlier_of}
 use Rattle.mt_syntax.specs.Fold.{on_expr, on_prop, on_markup_attribute, on_markup_child, on_decl, on_for_start, on_stmt, on_stmt_kind}
 use Rattle.mt_syntax.specs.declared.tree.Expr.{Expr}
 use Rattle.mt_syntax.specs.declared.tree.ForStart.{ForStart}

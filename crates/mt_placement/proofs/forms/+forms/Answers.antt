@@ -1,11 +1,11 @@
 use Rattle.std.proofs.Common.{not, [], map, sym, ap, ◌∙◌}
-use Rattle.mt_rules.specs.First.{earlier_of}
-use Rattle.mt_rules.specs.Joining.{first}
+use Rattle.mt_syntax.specs.First.{earlier_of}
+use Rattle.mt_syntax.specs.Joining.{first}
 use Rattle.mt_syntax.specs.Fold.{on_expr, on_prop, on_markup_attribute, on_markup_child, on_decl, on_for_start, on_markup, on_stmt, on_stmt_kind}
 use Rattle.mt_syntax.specs.declared.tree.StmtKind as kind
 use Rattle.mt_syntax.specs.declared.tree.Markup as element
 use Rattle.mt_tree.specs.Tables.{is_tag}
-use Rattle.mt_rules.specs.declared.rule.Rule.TheVariants as rule
+use Rattle.mt_syntax.specs.declared.rule.Rule.TheVariants as rule
 use Rattle.mt_placement.specs.Forms.{below, broken_if, finding_forms, in_optional, names_of, repeated_behind}
 use Rattle.mt_placement.proofs.FormParts.{in_for, in_markup, with_next}
 use Rattle.mt_placement.proofs.forms.+forms.Goals as goal

@@ -1,5 +1,5 @@
 use Rattle.std.proofs.Common.{◌≡◌, take}
-use Rattle.mt_rules.specs.Joining.{first}
+use Rattle.mt_syntax.specs.Joining.{first}
 use Rattle.mt_syntax.specs.Fold.{on_expr, on_prop, on_markup_attribute, on_markup_child, on_decl, on_stmt}
 use Rattle.mt_placement.specs.Forms.{finding_forms, in_each}
 use Rattle.mt_placement.proofs.forms.+forms.Given as goal

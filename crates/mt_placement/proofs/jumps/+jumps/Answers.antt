@@ -1,6 +1,6 @@
 use Rattle.std.proofs.Common.{sym, ap, ◌∙◌}
-use Rattle.mt_rules.specs.First.{earlier_of}
-use Rattle.mt_rules.specs.Joining.{first}
+use Rattle.mt_syntax.specs.First.{earlier_of}
+use Rattle.mt_syntax.specs.Joining.{first}
 use Rattle.mt_syntax.specs.Fold.{on_expr, on_prop, on_markup_attribute, on_markup_child, on_decl, on_stmt, on_stmt_kind}
 use Rattle.mt_syntax.specs.declared.tree.StmtKind as kind
 use Rattle.mt_placement.specs.Jumps.{finding_jumps, in_loop}

@@ -1,5 +1,5 @@
 use Rattle.std.proofs.Common.{sym, ◌∙◌}
-use Rattle.mt_rules.specs.First.{earlier_of}
+use Rattle.mt_syntax.specs.First.{earlier_of}
 use Rattle.mt_placement.proofs.FirstPlace.{program_is_first}
 use Rattle.mt_placement.proofs.program.first_misplaced.Goals as goal
 

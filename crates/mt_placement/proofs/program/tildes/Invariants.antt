@@ -1,6 +1,6 @@
 use Rattle.std.proofs.Common.{◌≡◌, None, map, take}
-use Rattle.mt_rules.specs.First.{earlier_of}
-use Rattle.mt_rules.specs.Joining.{first}
+use Rattle.mt_syntax.specs.First.{earlier_of}
+use Rattle.mt_syntax.specs.Joining.{first}
 use Rattle.mt_syntax.specs.Gathering.{all_of}
 use Rattle.mt_placement.specs.Placement.{in_tilde}
 use Rattle.mt_placement.proofs.program.tildes.Given as goal

@@ -1,6 +1,6 @@
 use Rattle.std.proofs.Common.{◌≡◌, ℕ, suc, ◌+◌, List, flat_map, length, add-one, ap, ◌∙◌, subst, IfOk}
-use Rattle.mt_rules.specs.First.{first_of}
-use Rattle.mt_rules.specs.declared.broken.Broken.{Broken}
+use Rattle.mt_syntax.specs.First.{first_of}
+use Rattle.mt_syntax.specs.declared.broken.Broken.{Broken}
 use Rattle.mt_syntax.specs.declared.program.Tilde.{Tilde}
 use Rattle.mt_declared.specs.declared.declaration.Declaration.{Declaration}
 use Rattle.mt_scopes.specs.Misused.{broken_at_site, broken_in_tilde, client_globals}

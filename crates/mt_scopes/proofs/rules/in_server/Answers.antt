@@ -1,7 +1,7 @@
 use Rattle.std.proofs.Common.{ap, ◌∙◌, sym}
-use Rattle.mt_rules.specs.First.{earlier_of, first_of}
-use Rattle.mt_rules.proofs.Order.{first_of_lists}
-use Rattle.mt_rules.specs.declared.rule.Rule.TheVariants as rule
+use Rattle.mt_syntax.specs.First.{earlier_of, first_of}
+use Rattle.mt_syntax.proofs.Order.{first_of_lists}
+use Rattle.mt_syntax.specs.declared.rule.Rule.TheVariants as rule
 use Rattle.mt_declared.specs.Builtins.{is_client_builtin}
 use Rattle.mt_scopes.specs.Rules.{breaks_s6, broken_where, is_client_name, is_foreign, is_of_client, is_server_name}
 use Rattle.mt_scopes.proofs.rules.in_server.Goals as goal

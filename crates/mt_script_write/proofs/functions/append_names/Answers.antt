@@ -1,5 +1,5 @@
 use Rattle.mt_syntax.specs.CodeText.{name_text}
-use Rattle.mt_json_write.proofs.Separated.{grown}
+use Rattle.mt_json.proofs.Separated.{grown}
 use Rattle.mt_script_write.proofs.functions.append_names.Goals as goal
 
 pub loop-name-preserved : goal.loop-name-preserved

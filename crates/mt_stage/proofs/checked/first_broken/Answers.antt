@@ -1,5 +1,5 @@
 use Rattle.std.proofs.Common.{sym, ◌∙◌}
-use Rattle.mt_rules.specs.First.{earlier_of}
+use Rattle.mt_syntax.specs.First.{earlier_of}
 use Rattle.mt_placement.specs.Placement.{misplaced}
 use Rattle.mt_declared.specs.Twice.{declared_twice}
 use Rattle.mt_scopes.specs.Misused.{misused_names}

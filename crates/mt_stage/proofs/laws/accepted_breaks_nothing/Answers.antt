@@ -1,6 +1,6 @@
 use Rattle.std.proofs.Common.{[], arith, subst}
 use Rattle.std.specs.Prelude.{Contains}
-use Rattle.mt_rules.specs.declared.broken.Broken.{Broken}
+use Rattle.mt_syntax.specs.declared.broken.Broken.{Broken}
 use Rattle.mt_stage.proofs.laws.accepted_breaks_nothing.Goals as goal
 
 nothing_in : (b : Broken) → ¬ Contains [] b

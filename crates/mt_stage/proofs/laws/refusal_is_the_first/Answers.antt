@@ -1,7 +1,7 @@
 use Rattle.std.proofs.Common.{◌≡◌, false}
 use Rattle.std.proofs.lemmas.List.Elements.{All-contains}
-use Rattle.mt_rules.specs.First.{comes_before}
-use Rattle.mt_rules.proofs.Order.{least, member}
+use Rattle.mt_syntax.specs.First.{comes_before}
+use Rattle.mt_syntax.proofs.Order.{least, member}
 use Rattle.mt_stage.specs.Accepted.{broken_places}
 use Rattle.mt_stage.proofs.laws.refusal_is_the_first.Goals as goal
 

@@ -1,5 +1,5 @@
 use Rattle.std.proofs.Common.{sym, ◌∙◌}
-use Rattle.mt_rules.specs.First.{earlier_of}
+use Rattle.mt_syntax.specs.First.{earlier_of}
 use Rattle.mt_declared.specs.Declarations.{declared}
 use Rattle.mt_declared.specs.Scopes.{scope_of}
 use Rattle.mt_declared.proofs.Repeats.{first_behind}

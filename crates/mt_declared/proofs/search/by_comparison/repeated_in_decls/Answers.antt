@@ -1,5 +1,5 @@
 use Rattle.std.proofs.Common.{List, ◌++◌, map, take, sym, ap, ◌∙◌}
-use Rattle.mt_rules.specs.First.{earlier_of, first_of}
+use Rattle.mt_syntax.specs.First.{earlier_of, first_of}
 use Rattle.mt_syntax.specs.Fold.{on_decl}
 use Rattle.mt_syntax.specs.declared.tree.Decl.{Decl}
 use Rattle.mt_syntax.specs.declared.tree.Decl as tree

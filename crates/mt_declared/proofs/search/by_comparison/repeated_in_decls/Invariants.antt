@@ -1,5 +1,5 @@
 use Rattle.std.proofs.Common.{◌≡◌, map, take}
-use Rattle.mt_rules.specs.First.{first_of}
+use Rattle.mt_syntax.specs.First.{first_of}
 use Rattle.mt_syntax.specs.Fold.{on_decl}
 use Rattle.mt_declared.specs.Declarations.{declarations, declaring, names_in}
 use Rattle.mt_declared.specs.Repeated.{repeated}

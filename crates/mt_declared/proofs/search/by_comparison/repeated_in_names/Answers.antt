@@ -1,5 +1,5 @@
 use Rattle.std.proofs.Common.{take, sym, ap, ◌∙◌}
-use Rattle.mt_rules.specs.First.{earlier_of, first_of}
+use Rattle.mt_syntax.specs.First.{earlier_of, first_of}
 use Rattle.mt_declared.specs.Declarations.{declaration, declarations}
 use Rattle.mt_declared.specs.Repeated.{repeated}
 use Rattle.mt_declared.proofs.Holding.{marks_more, where_clashes}

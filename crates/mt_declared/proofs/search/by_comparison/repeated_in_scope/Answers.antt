@@ -1,5 +1,5 @@
 use Rattle.std.proofs.Common.{◌++◌, map, take, sym, ap, ◌∙◌, append_assoc}
-use Rattle.mt_rules.specs.First.{earlier_of, first_of}
+use Rattle.mt_syntax.specs.First.{earlier_of, first_of}
 use Rattle.mt_declared.specs.Declarations.{declarations, declared, here_in}
 use Rattle.mt_declared.specs.Repeated.{repeated}
 use Rattle.mt_declared.specs.Scopes.{scope_of}

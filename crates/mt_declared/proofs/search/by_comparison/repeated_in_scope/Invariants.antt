@@ -1,5 +1,5 @@
 use Rattle.std.proofs.Common.{◌≡◌, take}
-use Rattle.mt_rules.specs.First.{first_of}
+use Rattle.mt_syntax.specs.First.{first_of}
 use Rattle.mt_declared.specs.Repeated.{repeated}
 use Rattle.mt_declared.specs.Scopes.{scope_of}
 use Rattle.mt_declared.proofs.search.by_comparison.repeated_in_scope.Given as goal

@@ -1,5 +1,5 @@
 use Rattle.std.proofs.Common.{sym, ap}
-use Rattle.mt_rules.specs.First.{first_of}
+use Rattle.mt_syntax.specs.First.{first_of}
 use Rattle.mt_declared.proofs.Alike.{variables_repeat_none}
 use Rattle.mt_declared.proofs.search.by_comparison.repeated_in_variables.Goals as goal
 

@@ -1,5 +1,5 @@
 use Rattle.std.proofs.Common.{ap, ◌∙◌, sym, subst, refl, take, [], ◌∷◌, ◌++◌}
-use Rattle.mt_rules.specs.First.{earlier_of, first_of}
+use Rattle.mt_syntax.specs.First.{earlier_of, first_of}
 use Rattle.mt_declared.specs.Repeated.{repeated}
 use Rattle.mt_declared.specs.Scopes.{Tells}
 use Rattle.mt_declared.proofs.Rows.{take_next}

@@ -1,5 +1,5 @@
 use Rattle.std.proofs.Common.{◌≡◌, ◌++◌, ap, subst, IfOk, None}
-use Rattle.mt_rules.specs.First.{earlier_of, first_of}
+use Rattle.mt_syntax.specs.First.{earlier_of, first_of}
 use Rattle.mt_declared.specs.Declarations.{declarations}
 use Rattle.mt_declared.specs.Repeated.{repeated}
 use Rattle.mt_declared.specs.Twice.{counting}

@@ -1,9 +1,9 @@
 use Rattle.std.proofs.Common.{not, map, take, ap, ◌∙◌}
 use Rattle.std.specs.Str.{encode_utf8_all}
 use Rattle.mt_tree.specs.Tables.{is_among}
-use Rattle.mt_rules.specs.First.{earlier_of}
-use Rattle.mt_rules.specs.Joining.{first}
-use Rattle.mt_rules.specs.declared.rule.Rule.TheVariants as rule
+use Rattle.mt_syntax.specs.First.{earlier_of}
+use Rattle.mt_syntax.specs.Joining.{first}
+use Rattle.mt_syntax.specs.declared.rule.Rule.TheVariants as rule
 use Rattle.mt_syntax.specs.Fold.{on_markup_attribute}
 use Rattle.mt_placement.specs.Forms.{broken_if, finding_forms, names_of}
 use Rattle.mt_placement.proofs.Twice.{found_next, not_not, set_next, spelled}

@@ -1,5 +1,5 @@
 use Rattle.std.proofs.Common.{◌≡◌, [], map, take}
-use Rattle.mt_rules.specs.Joining.{first}
+use Rattle.mt_syntax.specs.Joining.{first}
 use Rattle.mt_syntax.specs.Fold.{on_markup_attribute}
 use Rattle.mt_placement.specs.Forms.{finding_forms, names_of, repeated_behind}
 use Rattle.mt_placement.proofs.Twice.{IsSame}

@@ -1,6 +1,6 @@
 use Rattle.std.proofs.Common.{◌≡◌, ℕ, zero, suc, ◌-◌, ◌<◌, List, ap, arith, subst, IfOk, ◌∙◌}
 use Rattle.std.specs.Prelude.{slice_get}
-use Rattle.mt_rules.specs.First.{earlier_of, first_of}
+use Rattle.mt_syntax.specs.First.{earlier_of, first_of}
 use Rattle.mt_declared.proofs.Rows.{first_next}
 use Rattle.mt_scopes.specs.Misused.{broken_at_client_site, broken_at_site, broken_in_body, broken_in_tilde}
 use Rattle.mt_scopes.specs.declared.around.Around.{Around}

@@ -1,5 +1,5 @@
 use Rattle.std.proofs.Common.{◌≡◌, ◌+◌, ◌*◌, flat_map, take}
-use Rattle.mt_rules.specs.First.{first_of}
+use Rattle.mt_syntax.specs.First.{first_of}
 use Rattle.mt_scopes.specs.Misused.{broken_at_client_site, broken_at_site, broken_in_tilde}
 use Rattle.mt_scopes.proofs.check.Client.+misused.Given as goal
 

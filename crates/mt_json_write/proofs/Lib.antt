@@ -1,3 +1,0 @@
-mod Entries
-pub mod Fronts
-pub mod Separated
