@@ -34,7 +34,7 @@ use Rattle.mt_slots.specs.declared.function.Function.{Function as Code}
 use Rattle.mt_slots.specs.declared.name.Name.{Name}
 use Rattle.mt_tree.specs.declared.data.Data.{Data}
 use Rattle.mt_syntax.specs.Fold.{Tree, ExprKindLayer, MarkupChildLayer, MarkupValueLayer}
-use Rattle.mt_syntax.specs.declared.tree.Binary.{Binary}
+use Rattle.mt_tree.specs.declared.operators.Binary.{Binary}
 use Rattle.mt_syntax.specs.declared.tree.Expr.{Expr}
 use Rattle.mt_syntax.specs.declared.tree.ExprKind.TheOpen.{ExprKind-F, MarkupChild-F, MarkupValue-F}
 use Rattle.mt_syntax.specs.declared.tree.Function.{out-Function}

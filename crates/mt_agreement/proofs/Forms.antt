@@ -12,9 +12,9 @@ use Rattle.mt_evaluation.specs.declared.named_value.NamedValue.{NamedValue}
 use Rattle.mt_evaluation.specs.declared.reference.Reference.{Reference}
 use Rattle.mt_ops.specs.Operators.{binary_of, unary_of, is_truthy}
 use Rattle.mt_properties.specs.Costs.{steps, binary_units, unary_units, property_units}
-use Rattle.mt_syntax.specs.declared.tree.Binary.{Binary}
-use Rattle.mt_syntax.specs.declared.tree.StepKind.{StepKind}
-use Rattle.mt_syntax.specs.declared.tree.Unary.{Unary}
+use Rattle.mt_tree.specs.declared.operators.Binary.{Binary}
+use Rattle.mt_tree.specs.declared.operators.StepKind.{StepKind}
+use Rattle.mt_tree.specs.declared.operators.Unary.{Unary}
 use Rattle.mt_value.specs.declared.cell.Cell.TheVariants as cell
 use Rattle.mt_value.specs.declared.cell.Property.{Property}
 use Rattle.mt_value.specs.declared.value.Value.{Value}

@@ -24,7 +24,7 @@ use Rattle.mt_evaluation.specs.declared.reference.Referent.{Referent}
 use Rattle.mt_syntax.specs.Fold.{Tree, ExprKindLayer, MarkupChildLayer, MarkupValueLayer, on_expr, on_stmt, on_function, on_markup, on_markup_attribute, on_markup_child, on_prop}
 use Rattle.mt_syntax.specs.Gathering.{all_of, of_markup_child, of_markup_value}
 use Rattle.mt_syntax.specs.declared.program.Tilde.{Tilde}
-use Rattle.mt_syntax.specs.declared.tree.Binary.{Binary}
+use Rattle.mt_tree.specs.declared.operators.Binary.{Binary}
 use Rattle.mt_syntax.specs.declared.tree.Expr.{Expr}
 use Rattle.mt_syntax.specs.declared.tree.ExprKind.TheOpen.{ExprKind-F, MarkupChild-F, MarkupValue-F}
 use Rattle.mt_syntax.specs.declared.tree.Function.{Function, out-Function}

@@ -15,7 +15,7 @@ use Rattle.mt_agreement.proofs.Uses.{named, all_used, expr_uses, stmt_uses}
 use Rattle.mt_agreement.proofs.Views.{Agrees, Sim, regrouped, sim_as, seen_run, sim_pure, sim_leave, sim_bind, sim_on_state}
 use Rattle.mt_evaluation.specs.Entering.{Closure, Closures, Named, closure_at, lexical_variables, body_scope, define_all, enter_file, enter_client, function_names}
 use Rattle.mt_evaluation.specs.Evaluation as names
-use Rattle.mt_evaluation.specs.Evaluation.{deepest, most_calls, expr_kind_of}
+use Rattle.mt_evaluation.specs.Evaluation.{expr_kind_of}
 use Rattle.mt_evaluation.specs.Hoisting.{lexicals, variables, kind_of}
 use Rattle.mt_evaluation.specs.Host.{Meaning, Outside, does}
 use Rattle.mt_evaluation.specs.Names.{Environment, Surroundings}
@@ -30,6 +30,7 @@ use Rattle.mt_syntax.specs.declared.program.Tilde.{Tilde}
 use Rattle.mt_syntax.specs.declared.tree.Function.{Function}
 use Rattle.mt_syntax.specs.declared.tree.Stmt.{Stmt}
 use Rattle.mt_value.specs.declared.value.Value.{Value}
+use Rattle.mt_tree.specs.Limits.{call_limit, depth_limit}
 
 -- ---- the function in a cell
 
@@ -100,15 +101,15 @@ module _ {H : Type 0} (around : Surroundings) (keeps : (own : Option (List ℕ))
         }
 
     called_same : (c : Closure) (at : ℕ) (vs : List Value)
-        → Sim (trim_view around.tildes) (names.function_body around here (names.parts around host m deepest) c at vs) (names.function_body (keeping_free around) there (names.parts (keeping_free around) host n deepest) (trim_closure around.tildes c) at vs)
-    called_same c at vs = function_same around keeps here there (names.parts around host m deepest) (names.parts (keeping_free around) host n deepest) (level_same deepest) c at vs
+        → Sim (trim_view around.tildes) (names.function_body around here (names.parts around host m depth_limit) c at vs) (names.function_body (keeping_free around) there (names.parts (keeping_free around) host n depth_limit) (trim_closure around.tildes c) at vs)
+    called_same c at vs = function_same around keeps here there (names.parts around host m depth_limit) (names.parts (keeping_free around) host n depth_limit) (level_same depth_limit) c at vs
 
     -- the functions and statements of a body whose environment is the same on both sides
     top_same : (items : List Stmt) (scope : Environment)
-        → Sim (trim_view around.tildes) (λ s. and_then (define_all around scope items s) (λ _. names.body around here (names.parts around host m deepest) items scope))
-        (λ s. and_then (define_all (keeping_free around) scope items s) (λ _. names.body (keeping_free around) there (names.parts (keeping_free around) host n deepest) items scope))
+        → Sim (trim_view around.tildes) (λ s. and_then (define_all around scope items s) (λ _. names.body around here (names.parts around host m depth_limit) items scope))
+        (λ s. and_then (define_all (keeping_free around) scope items s) (λ _. names.body (keeping_free around) there (names.parts (keeping_free around) host n depth_limit) items scope))
     top_same items scope =
-        entered_same around keeps here there (names.parts around host m deepest) (names.parts (keeping_free around) host n deepest) (level_same deepest) items (function_names items) scope scope (λ y h. h)
+        entered_same around keeps here there (names.parts around host m depth_limit) (names.parts (keeping_free around) host n depth_limit) (level_same depth_limit) items (function_names items) scope scope (λ y h. h)
         (alike_same [] ((all_used (tilde around) items).free ++ function_names items) scope)
 
   pub enter_same : (calls : ℕ) → SameEnter (names.enter_to around host calls) (names.enter_to (keeping_free around) host calls)
@@ -116,8 +117,8 @@ module _ {H : Type 0} (around : Surroundings) (keeps : (own : Option (List ℕ))
   enter_same (suc calls) at vs =
       let m = names.enter_to around host calls in
       let n = names.enter_to (keeping_free around) host calls in
-      with_closure_same (λ c. names.function_body around (names.outside_with around host m) (names.parts around host m deepest) c at vs)
-      (λ c. names.function_body (keeping_free around) (names.outside_with (keeping_free around) host n) (names.parts (keeping_free around) host n deepest) c at vs) (λ c. called_same m n (enter_same calls) c at vs) at
+      with_closure_same (λ c. names.function_body around (names.outside_with around host m) (names.parts around host m depth_limit) c at vs)
+      (λ c. names.function_body (keeping_free around) (names.outside_with (keeping_free around) host n) (names.parts (keeping_free around) host n depth_limit) c at vs) (λ c. called_same m n (enter_same calls) c at vs) at
 
   -- ---- whole jobs
 
@@ -128,17 +129,17 @@ module _ {H : Type 0} (around : Surroundings) (keeps : (own : Option (List ℕ))
   called_trims : (f : Value) (vs : List Value) → Sim (trim_view around.tildes) (names.called around host f vs) (names.called (keeping_free around) host f vs)
   unfolding names.called
   called_trims f vs =
-      let m = names.enter_to around host (suc most_calls) in
-      let n = names.enter_to (keeping_free around) host (suc most_calls) in
-      applied_sim (trim_view around.tildes) (names.outside_with around host m) (names.outside_with (keeping_free around) host n) (calls_same m n (enter_same (suc most_calls))) f vs
+      let m = names.enter_to around host (suc call_limit) in
+      let n = names.enter_to (keeping_free around) host (suc call_limit) in
+      applied_sim (trim_view around.tildes) (names.outside_with around host m) (names.outside_with (keeping_free around) host n) (calls_same m n (enter_same (suc call_limit))) f vs
 
   file_trims : (items : List Stmt) → Sim (trim_view around.tildes) (names.file around host items) (names.file (keeping_free around) host items)
   unfolding names.file enter_file
   file_trims items =
-      let m = names.enter_to around host most_calls in
-      let n = names.enter_to (keeping_free around) host most_calls in
-      let p = names.parts around host m deepest in
-      let q = names.parts (keeping_free around) host n deepest in
+      let m = names.enter_to around host call_limit in
+      let n = names.enter_to (keeping_free around) host call_limit in
+      let p = names.parts around host m depth_limit in
+      let q = names.parts (keeping_free around) host n depth_limit in
       let o = names.outside_with around host m in
       let o' = names.outside_with (keeping_free around) host n in
       let entry = body_scope None 0 [] [] items in
@@ -156,15 +157,15 @@ module _ {H : Type 0} (around : Surroundings) (keeps : (own : Option (List ℕ))
       sim_as (trim_view around.tildes) (f scope) (λ s. and_then (one s) (λ _ s. gives scope s)) (g scope) (λ s. and_then (two s) (λ _ s. gives scope s))
       (λ s. regrouped (define_all around scope items s) (λ _ s. gives scope s) last ∙ sym (regrouped (define_all around scope items s) (λ _. names.body around o p items scope) (λ _ s. gives scope s)))
       (λ s. regrouped (define_all (keeping_free around) scope items s) (λ _ s. gives scope s) last' ∙ sym (regrouped (define_all (keeping_free around) scope items s) (λ _. names.body (keeping_free around) o' q items scope) (λ _ s. gives scope s)))
-      (sim_bind (trim_view around.tildes) (top_same m n (enter_same most_calls) items scope) (λ _. sim_pure (trim_view around.tildes) scope))))
+      (sim_bind (trim_view around.tildes) (top_same m n (enter_same call_limit) items scope) (λ _. sim_pure (trim_view around.tildes) scope))))
 
   client_trims : (items : List Stmt) → Sim (trim_view around.tildes) (names.client_code around host items) (names.client_code (keeping_free around) host items)
   unfolding names.client_code enter_client
   client_trims items =
-      let m = names.enter_to around host most_calls in
-      let n = names.enter_to (keeping_free around) host most_calls in
-      let p = names.parts around host m deepest in
-      let q = names.parts (keeping_free around) host n deepest in
+      let m = names.enter_to around host call_limit in
+      let n = names.enter_to (keeping_free around) host call_limit in
+      let p = names.parts around host m depth_limit in
+      let q = names.parts (keeping_free around) host n depth_limit in
       let o = names.outside_with around host m in
       let o' = names.outside_with (keeping_free around) host n in
       let globals : Eval (Named H) (Unit {0}) = each (map (λ name. on_state (declare_global name)) (variables items)) in
@@ -182,7 +183,7 @@ module _ {H : Type 0} (around : Surroundings) (keeps : (own : Option (List ℕ))
       (makes_then around.tildes (Covers (named (lexicals items) ++ [])) entry f g (lexicals_make around.tildes (lexicals items) []) (λ scope covers.
       sim_as (trim_view around.tildes) (f scope) (λ s. and_then (define_all around scope items s) (λ _. names.body around o p items scope)) (g scope) (λ s. and_then (define_all (keeping_free around) scope items s) (λ _. names.body (keeping_free around) o' q items scope))
       (λ s. regrouped (define_all around scope items s) (λ _ s. gives scope s) (names.body around o p items)) (λ s. regrouped (define_all (keeping_free around) scope items s) (λ _ s. gives scope s) (names.body (keeping_free around) o' q items))
-      (top_same m n (enter_same most_calls) items scope)))))
+      (top_same m n (enter_same call_limit) items scope)))))
 
   -- ---- the law
 

@@ -28,8 +28,8 @@ use Rattle.mt_syntax.specs.declared.tree.Expr.{Expr}
 use Rattle.mt_syntax.specs.declared.tree.ExprKind.TheOpen.{ForStart-F, StmtKind-F}
 use Rattle.mt_syntax.specs.declared.tree.ForStart.{ForStart, out-ForStart}
 use Rattle.mt_syntax.specs.declared.tree.Stmt.{Stmt}
-use Rattle.mt_syntax.specs.declared.tree.VarKind.{VarKind}
-use Rattle.mt_syntax.specs.declared.tree.VarKind.TheVariants as word
+use Rattle.mt_tree.specs.declared.operators.VarKind.{VarKind}
+use Rattle.mt_tree.specs.declared.operators.VarKind.TheVariants as word
 use Rattle.mt_syntax_laws.proofs.Layers.{map_for_start, map_stmt_kind}
 use Rattle.mt_syntax_laws.proofs.Related.{on}
 use Rattle.mt_value.specs.declared.cell.Cell.TheVariants as cell

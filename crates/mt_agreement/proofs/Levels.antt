@@ -17,7 +17,7 @@ use Rattle.mt_agreement.proofs.Views.{Agrees, Sim, sim_pure, sim_leave, sim_bind
 use Rattle.mt_agreement.proofs.Statements.{SimStmts, body_sim, case_stmt}
 use Rattle.mt_evaluation.specs.Entering.{Closure, Closures, Named, closure_at}
 use Rattle.mt_evaluation.specs.Evaluation as names
-use Rattle.mt_evaluation.specs.Evaluation.{deepest, most_calls, expr_kind_of}
+use Rattle.mt_evaluation.specs.Evaluation.{expr_kind_of}
 use Rattle.mt_evaluation.specs.Hoisting.{kind_of}
 use Rattle.mt_evaluation.specs.Host.{Meaning}
 use Rattle.mt_evaluation.specs.Names.{Environment, Surroundings}
@@ -40,6 +40,7 @@ use Rattle.mt_value.specs.declared.cell.Cell.{Cell}
 use Rattle.mt_value.specs.declared.cell.Cell.TheVariants as cell
 use Rattle.mt_value.specs.declared.cell.FunCell.{FunCell}
 use Rattle.mt_value.specs.declared.value.Value.{Value}
+use Rattle.mt_tree.specs.Limits.{call_limit, depth_limit}
 
 -- ---- the function in a cell
 
@@ -161,20 +162,20 @@ module _ {H : Type 0} (around : Surroundings) (units : List Code) (table : List 
         case_stmt around units table depth (slots.over host m (slots.level units host m depth)) (names.outside_with (keeping_free around) host n) (names.parts (keeping_free around) host n more) (level_exprs depth more shallow) (level_stmts depth more shallow) scope frame low k lower (code_stmt.out-Stmt u) (kind_of t) h)
 
     -- the statements of a body
-    level_body : (scope : Scope) (frame : Frame) (us : List code_stmt.Stmt) (ts : List Stmt) → IsBelow (length frame) scope → AllStand (StmtStandsTo around units table deepest scope (length frame)) us ts
-        → Sim (slots_view table) (slots.body units (slots.over host m (slots.level units host m deepest)) us frame) (names.body (keeping_free around) (names.outside_with (keeping_free around) host n) (names.parts (keeping_free around) host n deepest) ts (environment_of scope frame))
+    level_body : (scope : Scope) (frame : Frame) (us : List code_stmt.Stmt) (ts : List Stmt) → IsBelow (length frame) scope → AllStand (StmtStandsTo around units table depth_limit scope (length frame)) us ts
+        → Sim (slots_view table) (slots.body units (slots.over host m (slots.level units host m depth_limit)) us frame) (names.body (keeping_free around) (names.outside_with (keeping_free around) host n) (names.parts (keeping_free around) host n depth_limit) ts (environment_of scope frame))
     level_body scope frame us ts low h =
-        let same : deepest ≤ deepest = omega arith in
-        body_sim around units table deepest (slots.over host m (slots.level units host m deepest)) (names.outside_with (keeping_free around) host n) (names.parts (keeping_free around) host n deepest) (level_exprs deepest deepest same) (level_stmts deepest deepest same) deepest same scope frame us ts low h
+        let same : depth_limit ≤ depth_limit = omega arith in
+        body_sim around units table depth_limit (slots.over host m (slots.level units host m depth_limit)) (names.outside_with (keeping_free around) host n) (names.parts (keeping_free around) host n depth_limit) (level_exprs depth_limit depth_limit same) (level_stmts depth_limit depth_limit same) depth_limit same scope frame us ts low h
 
     called_sim : (c : Code) (e : Numbered) → CodeStands around units table c e → (captured : Frame) → length captured ≡ length e.names → (at : ℕ) (vs : List Value)
-        → Sim (slots_view table) (slots.function_body units (slots.over host m (slots.level units host m deepest)) (Some c) captured at vs) (names.function_body (keeping_free around) (names.outside_with (keeping_free around) host n) (names.parts (keeping_free around) host n deepest) (closure_of e captured) at vs)
+        → Sim (slots_view table) (slots.function_body units (slots.over host m (slots.level units host m depth_limit)) (Some c) captured at vs) (names.function_body (keeping_free around) (names.outside_with (keeping_free around) host n) (names.parts (keeping_free around) host n depth_limit) (closure_of e captured) at vs)
     unfolding names.function_body
     called_sim c e stands captured same at vs =
         let ts = (out-Function e.function).body in
-        function_then around units table c e stands captured same at vs (slots.body units (slots.over host m (slots.level units host m deepest)) c.body.statements)
-        (names.body (keeping_free around) (names.outside_with (keeping_free around) host n) (names.parts (keeping_free around) host n deepest) ts) (λ inner long low.
-        level_body (scope_of around units table e) inner c.body.statements ts low (subst (λ (k : ℕ). AllStand (StmtStandsTo around units table deepest (scope_of around units table e) k) c.body.statements ts) long stands.body.statements))
+        function_then around units table c e stands captured same at vs (slots.body units (slots.over host m (slots.level units host m depth_limit)) c.body.statements)
+        (names.body (keeping_free around) (names.outside_with (keeping_free around) host n) (names.parts (keeping_free around) host n depth_limit) ts) (λ inner long low.
+        level_body (scope_of around units table e) inner c.body.statements ts low (subst (λ (k : ℕ). AllStand (StmtStandsTo around units table depth_limit (scope_of around units table e) k) c.body.statements ts) long stands.body.statements))
 
   module _ (stands : TableStands around units table) where
     pub enter_sim : (calls : ℕ) (at : ℕ) (vs : List Value) → Sim (slots_view table) (slots.enter_to units host calls at vs) (names.enter_to (keeping_free around) host calls at vs)
@@ -182,10 +183,10 @@ module _ {H : Type 0} (around : Surroundings) (units : List Code) (table : List 
     enter_sim (suc calls) at vs =
         let m = slots.enter_to units host calls in
         let n = names.enter_to (keeping_free around) host calls in
-        entered_sim (λ c. slots.function_body units (slots.over host m (slots.level units host m deepest)) (slice_get units c.function) c.captured at vs)
-        (λ c. names.function_body (keeping_free around) (names.outside_with (keeping_free around) host n) (names.parts (keeping_free around) host n deepest) c at vs) (λ c e is known.
+        entered_sim (λ c. slots.function_body units (slots.over host m (slots.level units host m depth_limit)) (slice_get units c.function) c.captured at vs)
+        (λ c. names.function_body (keeping_free around) (names.outside_with (keeping_free around) host n) (names.parts (keeping_free around) host n depth_limit) c at vs) (λ c e is known.
         let found = stands.code c.function e is in
-        subst (λ (o : Option Code). Sim (slots_view table) (slots.function_body units (slots.over host m (slots.level units host m deepest)) o c.captured at vs) (names.function_body (keeping_free around) (names.outside_with (keeping_free around) host n) (names.parts (keeping_free around) host n deepest) (closure_of e c.captured) at vs)) (sym found.1)
+        subst (λ (o : Option Code). Sim (slots_view table) (slots.function_body units (slots.over host m (slots.level units host m depth_limit)) o c.captured at vs) (names.function_body (keeping_free around) (names.outside_with (keeping_free around) host n) (names.parts (keeping_free around) host n depth_limit) (closure_of e c.captured) at vs)) (sym found.1)
         (called_sim m n (enter_sim calls) found.0 e found.2 c.captured known at vs)) at
 
     -- ---- whole jobs
@@ -193,29 +194,29 @@ module _ {H : Type 0} (around : Surroundings) (units : List Code) (table : List 
     pub called_agrees : (f : Value) (vs : List Value) → Sim (slots_view table) (slots.called units host f vs) (names.called (keeping_free around) host f vs)
     unfolding slots.called slots.parts names.called
     called_agrees f vs =
-        applied_sim (slots_view table) (slots.over host (slots.enter_to units host (suc most_calls)) (slots.level units host (slots.enter_to units host (suc most_calls)) deepest)).outside (names.outside_with (keeping_free around) host (names.enter_to (keeping_free around) host (suc most_calls)))
-        (host_calls table host (slots.enter_to units host (suc most_calls)) (names.enter_to (keeping_free around) host (suc most_calls)) (enter_sim (suc most_calls))) f vs
+        applied_sim (slots_view table) (slots.over host (slots.enter_to units host (suc call_limit)) (slots.level units host (slots.enter_to units host (suc call_limit)) depth_limit)).outside (names.outside_with (keeping_free around) host (names.enter_to (keeping_free around) host (suc call_limit)))
+        (host_calls table host (slots.enter_to units host (suc call_limit)) (names.enter_to (keeping_free around) host (suc call_limit)) (enter_sim (suc call_limit))) f vs
 
     pub client_agrees : (u : Unit') (items : List Stmt) → ClientCodeStands around units table u items → Sim (slots_view table) (slots.unit units host u) (names.client_code (keeping_free around) host items)
     unfolding slots.unit slots.parts names.client_code
     client_agrees u items code =
-        let m = slots.enter_to units host most_calls in
-        let n = names.enter_to (keeping_free around) host most_calls in
-        client_then around units table u items code (slots.body units (slots.over host m (slots.level units host m deepest)) u.body.statements) (names.body (keeping_free around) (names.outside_with (keeping_free around) host n) (names.parts (keeping_free around) host n deepest) items) (λ inner long low.
-        level_body m n (enter_sim most_calls) (client_scope items) inner u.body.statements items low
-        (subst (λ (k : ℕ). AllStand (StmtStandsTo around units table deepest (client_scope items) k) u.body.statements items) long code.statements))
+        let m = slots.enter_to units host call_limit in
+        let n = names.enter_to (keeping_free around) host call_limit in
+        client_then around units table u items code (slots.body units (slots.over host m (slots.level units host m depth_limit)) u.body.statements) (names.body (keeping_free around) (names.outside_with (keeping_free around) host n) (names.parts (keeping_free around) host n depth_limit) items) (λ inner long low.
+        level_body m n (enter_sim call_limit) (client_scope items) inner u.body.statements items low
+        (subst (λ (k : ℕ). AllStand (StmtStandsTo around units table depth_limit (client_scope items) k) u.body.statements items) long code.statements))
 
     -- the file gives the environment of its top, which its frame gives to the entry
     pub file_agrees : (u : Unit') (items : List Stmt) → FileStands around units table u items → Sim (slots_view table) (file_on_slots units host u items) (names.file (keeping_free around) host items)
     unfolding slots.parts names.file
     file_agrees u items code =
-        let m = slots.enter_to units host most_calls in
-        let n = names.enter_to (keeping_free around) host most_calls in
+        let m = slots.enter_to units host call_limit in
+        let n = names.enter_to (keeping_free around) host call_limit in
         let scope = file_scope items in
         let entry = body_entry 0 None [] items in
         file_then around units table u items code
-        (λ frame s. and_then (slots.body units (slots.over host m (slots.level units host m deepest)) u.body.statements frame s) (λ _ s. gives (environment_of entry frame) s))
-        (λ env s. and_then (names.body (keeping_free around) (names.outside_with (keeping_free around) host n) (names.parts (keeping_free around) host n deepest) items env s) (λ _ s. gives env s)) (λ inner long low.
-        sim_bind (slots_view table) (level_body m n (enter_sim most_calls) scope inner u.body.statements items low
-        (subst (λ (k : ℕ). AllStand (StmtStandsTo around units table deepest scope k) u.body.statements items) long code.body.statements)) (λ _.
+        (λ frame s. and_then (slots.body units (slots.over host m (slots.level units host m depth_limit)) u.body.statements frame s) (λ _ s. gives (environment_of entry frame) s))
+        (λ env s. and_then (names.body (keeping_free around) (names.outside_with (keeping_free around) host n) (names.parts (keeping_free around) host n depth_limit) items env s) (λ _ s. gives env s)) (λ inner long low.
+        sim_bind (slots_view table) (level_body m n (enter_sim call_limit) scope inner u.body.statements items low
+        (subst (λ (k : ℕ). AllStand (StmtStandsTo around units table depth_limit scope k) u.body.statements items) long code.body.statements)) (λ _.
         subst (λ (z : Environment). Sim (slots_view {H = H} table) (λ s. gives z s) (λ s. gives (environment_of scope inner) s)) (ap (λ (z : Scope). environment_of z inner) (append-nil entry)) (sim_pure (slots_view table) (environment_of scope inner))))

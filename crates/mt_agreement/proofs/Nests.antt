@@ -12,8 +12,8 @@ use Rattle.mt_syntax.specs.Sort as sort
 use Rattle.mt_syntax.specs.declared.program.Tilde.{Tilde}
 use Rattle.mt_syntax.specs.declared.tree.Expr.{Expr}
 use Rattle.mt_syntax.specs.declared.tree.ExprKind.TheOpen.{ExprKind-F, StmtKind-F}
-use Rattle.mt_syntax.specs.declared.tree.VarKind.{VarKind}
-use Rattle.mt_syntax.specs.declared.tree.VarKind.TheVariants as word
+use Rattle.mt_tree.specs.declared.operators.VarKind.{VarKind}
+use Rattle.mt_tree.specs.declared.operators.VarKind.TheVariants as word
 use Rattle.mt_syntax_laws.proofs.Gathered.{Alike, rows, gathered}
 use Rattle.mt_syntax_laws.proofs.Layers.{map_expr_kind, map_stmt_kind, map_decl, map_function}
 use Rattle.mt_syntax_laws.proofs.Related.{Two, lefts, rights, Preserved, related_expr}

@@ -10,7 +10,6 @@ use Rattle.mt_agreement.specs.States.{Numbered}
 use Rattle.mt_agreement.proofs.Blocks.{wider}
 use Rattle.mt_agreement.proofs.Laws.{starts, state_shown}
 use Rattle.mt_evaluation.specs.Entering.{Named, function_names}
-use Rattle.mt_evaluation.specs.Evaluation.{deepest, most_calls}
 use Rattle.mt_evaluation.specs.Hoisting.{Lexical, lexicals, variables}
 use Rattle.mt_evaluation.specs.Host.{Meaning}
 use Rattle.mt_evaluation.specs.Names.{Environment, Surroundings}
@@ -30,6 +29,7 @@ use Rattle.mt_value.specs.declared.cell.Cell.{Cell}
 use Rattle.mt_value.specs.declared.cell.Cell.TheVariants as cell
 use Rattle.mt_value.specs.declared.value.Value.{Value}
 use Rattle.mt_value.specs.declared.value.Value.TheVariants as value
+use Rattle.mt_tree.specs.Limits.{call_limit, depth_limit}
 
 -- ---- the slots of an entry are below its length
 
@@ -128,7 +128,7 @@ module _ (around : Surroundings) (units : List Code) (table : List Numbered) (u 
 
   module _ {H : Type 0} (host : Meaning H) (ran : Ran (State × Named H) Environment) where
     abbrev statements : Frame → Eval H Value
-    statements = slots.body units (slots.parts units host most_calls deepest) u.body.statements
+    statements = slots.body units (slots.parts units host call_limit depth_limit) u.body.statements
 
     by_statements : (frame : Frame) (r : Ran (State × H) Value) → frame ≡ range_with_len 0 (u.body.variables + u.body.undeclared) → EndsAs around.tildes table ran (and_then r (λ _ s. gives (environment_of (body_entry 0 None [] items) frame) s)) → StartsAs around.tildes table items ran r
     by_statements frame (gives v s) e ends = (ends.0, ends.1 ∙ ap (λ (env : Environment). gives env ends.0) (environment_is frame e), ends.2)

@@ -24,8 +24,8 @@ use Rattle.mt_syntax.specs.declared.tree.MarkupValue.{out-MarkupValue, roll-out-
 use Rattle.mt_syntax.specs.declared.tree.Prop.{Prop, out-Prop, roll-out-Prop}
 use Rattle.mt_syntax.specs.declared.tree.Stmt.{Stmt, out-Stmt, roll-out-Stmt}
 use Rattle.mt_syntax.specs.declared.tree.StmtKind.{roll-out-StmtKind}
-use Rattle.mt_syntax.specs.declared.tree.VarKind.{VarKind}
-use Rattle.mt_syntax.specs.declared.tree.VarKind.TheVariants as word
+use Rattle.mt_tree.specs.declared.operators.VarKind.{VarKind}
+use Rattle.mt_tree.specs.declared.operators.VarKind.TheVariants as word
 use Rattle.mt_syntax_laws.proofs.Layers.{map_expr_kind, map_for_start, map_markup_child, map_markup_value, map_stmt_kind, map_decl}
 use Rattle.mt_syntax_laws.proofs.Related.{on, at_expr, at_expr_kind, at_stmt, at_stmt_kind, at_function, at_decl, at_for_start, at_markup, at_markup_attribute, at_markup_child, at_markup_value, at_prop, Two, lefts, rights, Preserved, related_stmt}
 

@@ -4,7 +4,7 @@ use Rattle.mt_agreement.specs.Scopes.{environment_of, body_entry}
 use Rattle.mt_agreement.specs.States.{Numbered, keeping_free, keeping_whole, trim, trimmed}
 use Rattle.mt_agreement.specs.Stores.{StateStands}
 use Rattle.mt_evaluation.specs.Entering.{Named}
-use Rattle.mt_evaluation.specs.Evaluation.{deepest, most_calls, file, client_code, called}
+use Rattle.mt_evaluation.specs.Evaluation.{file, client_code, called}
 use Rattle.mt_evaluation.specs.Host.{Meaning, seen}
 use Rattle.mt_evaluation.specs.Names.{Environment, Surroundings}
 use Rattle.mt_evaluation.specs.Runs.{Ran, gives, leaves, ◌>>=◌, ◌>>◌, pure}
@@ -19,12 +19,13 @@ use Rattle.mt_slots.specs.declared.function.Unit.{Unit as Unit'}
 use Rattle.mt_syntax.specs.declared.program.Tilde.{Tilde}
 use Rattle.mt_syntax.specs.declared.tree.Stmt.{Stmt}
 use Rattle.mt_value.specs.declared.value.Value.{Value}
+use Rattle.mt_tree.specs.Limits.{call_limit, depth_limit}
 
 -- the file on slots, with the environment that its frame gives to the names of its top
 abbrev pub file_on_slots : {H : Type 0} → List Code → Meaning H → Unit' → List Stmt → Eval H Environment
 file_on_slots units host u items = do
   frame ← on_state (enter_unit units u)
-  slots.body units (slots.parts units host most_calls deepest) u.body.statements frame
+  slots.body units (slots.parts units host call_limit depth_limit) u.body.statements frame
   pure (environment_of (body_entry 0 None [] items) frame)
 
 -- ---- runs that end alike, in states of which one stands for the other

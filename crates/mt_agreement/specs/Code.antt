@@ -3,7 +3,7 @@ use Rattle.std.specs.Prelude.{◌≡◌, ℕ, zero, suc, ◌+◌, List, [], ◌�
 use Rattle.mt_agreement.specs.Free.{cut, free_of}
 use Rattle.mt_agreement.specs.Scopes.{Slot, Scope, binding_of, with_lexicals, with_name, own_given, parameter_entry, variable_entry, body_entry}
 use Rattle.mt_agreement.specs.States.{Numbered}
-use Rattle.mt_evaluation.specs.Evaluation.{deepest, dollars_of, expr_kind_of, own_name}
+use Rattle.mt_evaluation.specs.Evaluation.{dollars_of, expr_kind_of, own_name}
 use Rattle.mt_evaluation.specs.Hoisting.{Lexical, kind_of, lexicals, functions, names_of, variables}
 use Rattle.mt_evaluation.specs.Names.{Surroundings}
 use Rattle.mt_slots.specs.Slots.{ExprLayer, StmtLayer, PieceLayer}
@@ -34,6 +34,7 @@ use Rattle.mt_syntax.specs.declared.tree.MarkupChild.{out-MarkupChild}
 use Rattle.mt_syntax.specs.declared.tree.MarkupValue.{out-MarkupValue}
 use Rattle.mt_syntax.specs.declared.tree.Prop.{Prop, out-Prop}
 use Rattle.mt_syntax.specs.declared.tree.Stmt as stmt
+use Rattle.mt_tree.specs.Limits.{depth_limit}
 
 -- how parts of a node stand for parts of another; of statements also in frames of which size
 abbrev pub ExprsStand : Type 1
@@ -176,7 +177,7 @@ module _ (around : Surroundings) (units : List Function) (table : List Numbered)
     pub variables : length (parameter_entry size own parameters ts) + b.variables ≡ length (variable_entry size own parameters ts)
     pub undeclared : length (variable_entry size own parameters ts) + b.undeclared ≡ length (body_entry size own parameters ts)
     pub hoisted : AllStand (HoistedStands (body_entry size own parameters ts ++ captured)) b.hoisted (functions ts)
-    pub statements : AllStand (StmtStandsTo deepest (body_entry size own parameters ts ++ captured) (size + length (body_entry size own parameters ts))) b.statements ts
+    pub statements : AllStand (StmtStandsTo depth_limit (body_entry size own parameters ts ++ captured) (size + length (body_entry size own parameters ts))) b.statements ts
 
   pub record CodeStands (code : Function) (n : Numbered) : Type 0 where
     pub own : code.own ≡ own_given (length n.names) n.own (names_of (function.out-Function n.function).parameters) (function.out-Function n.function).body
@@ -198,4 +199,4 @@ module _ (around : Surroundings) (units : List Function) (table : List Numbered)
     pub variables : u.body.variables ≡ 0
     pub undeclared : u.body.undeclared ≡ length (lexicals items)
     pub hoisted : AllStand (HoistedStands (with_lexicals 0 (lexicals items) [])) u.body.hoisted (functions items)
-    pub statements : AllStand (StmtStandsTo deepest (with_lexicals 0 (lexicals items) []) (length (lexicals items))) u.body.statements items
+    pub statements : AllStand (StmtStandsTo depth_limit (with_lexicals 0 (lexicals items) []) (length (lexicals items))) u.body.statements items

@@ -7,8 +7,8 @@ use Rattle.mt_syntax.specs.Fold.{Every, ExprKindLayer, StmtKindLayer, FunctionLa
 use Rattle.mt_syntax.specs.Gathering.{gathering, all_of}
 use Rattle.mt_syntax.specs.declared.program.Tilde.{Tilde}
 use Rattle.mt_syntax.specs.declared.tree.Function.{Function}
-use Rattle.mt_syntax.specs.declared.tree.VarKind.{VarKind}
-use Rattle.mt_syntax.specs.declared.tree.VarKind.TheVariants as word
+use Rattle.mt_tree.specs.declared.operators.VarKind.{VarKind}
+use Rattle.mt_tree.specs.declared.operators.VarKind.TheVariants as word
 use Rattle.mt_syntax.specs.declared.tree.ExprKind.TheOpen.{ExprKind-F, StmtKind-F}
 use Rattle.mt_value.specs.Names.{is_same}
 

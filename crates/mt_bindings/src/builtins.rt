@@ -4,7 +4,7 @@ ghost use Rattle.mt_evaluation.specs.Names.{builtin_of, builtin_of_tier};
 ghost use Rattle.mt_ops.specs.Texts.{is_plain};
 ghost use Rattle.mt_value.specs.Names.{is_same};
 
-use mt_tree::Text;
+use mt_tree::{Text, builtin};
 use mt_value::Native;
 
 /// A tier of the language.
@@ -27,18 +27,18 @@ fn builtin_of_tier(tier: Tier, name: &Text) -> Option<Native>
 {
     match tier {
         Tier::Server => {
-            if is_spelled(name, "log") {
+            if is_spelled(name, builtin::LOG) {
                 Some(Native::Log)
             } else {
                 None
             }
         }
         Tier::Client => {
-            if is_spelled(name, "alert") {
+            if is_spelled(name, builtin::ALERT) {
                 Some(Native::Alert)
-            } else if is_spelled(name, "document") {
+            } else if is_spelled(name, builtin::DOCUMENT) {
                 Some(Native::Document)
-            } else if is_spelled(name, "event") {
+            } else if is_spelled(name, builtin::EVENT) {
                 Some(Native::Event)
             } else {
                 None
@@ -52,15 +52,15 @@ fn builtin_of_tier(tier: Tier, name: &Text) -> Option<Native>
 pub fn builtin(tier: Tier, name: &Text) -> Option<Native>
     ensures { result ≡ builtin_of (tier_of tier) name.now }
 {
-    if is_spelled(name, "Object") {
+    if is_spelled(name, builtin::OBJECT) {
         Some(Native::Object)
-    } else if is_spelled(name, "Array") {
+    } else if is_spelled(name, builtin::ARRAY) {
         Some(Native::Array)
-    } else if is_spelled(name, "String") {
+    } else if is_spelled(name, builtin::STRING) {
         Some(Native::String)
-    } else if is_spelled(name, "Number") {
+    } else if is_spelled(name, builtin::NUMBER) {
         Some(Native::Number)
-    } else if is_spelled(name, "Error") {
+    } else if is_spelled(name, builtin::ERROR) {
         Some(Native::Error)
     } else {
         builtin_of_tier(tier, name)

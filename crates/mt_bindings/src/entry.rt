@@ -6,8 +6,8 @@ ghost use Rattle.mt_evaluation.specs.Hoisting as hoisting;
 
 use crate::scope::{push_all, sum};
 use crate::slot::Slot;
-use mt_syntax::{Decl, Mark, Stmt, StmtKind, VarKind};
-use mt_tree::{NoMemory, Text, push};
+use mt_syntax::{Decl, Mark, Stmt, StmtKind};
+use mt_tree::{NoMemory, Text, VarKind, push};
 use std::alloc::Global;
 use std::marker::Model;
 

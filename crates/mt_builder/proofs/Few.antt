@@ -5,7 +5,7 @@ use Rattle.mt_grammar.specs.Token.{Tokens}
 use Rattle.mt_grammar.specs.Nodes.{stmts_nodes}
 use Rattle.mt_grammar.specs.Grammar.{Ends, ReadsNames, Parameters, Head, Reads, ReadsList, ReadsProps, ReadsFunction, ReadsTilde, ReadsDollar, ReadsElement, ReadsAttribute, ReadsAttributes, ReadsChild, ReadsChildren, ReadsDecl, ReadsDecls, ReadsOptional, ReadsStart, ReadsBlock, ReadsBody, ReadsStmt, ReadsStmts, ReadsItem, ReadsItems, semicolon, before_brace, first_name, next_name, no_parameters, parameters, h_service, h_declaration, h_named, h_expression, r_assign, r_up, r_condition, r_operation, r_unary, r_step_before, r_step_after, r_dot, r_index, r_call_none, r_call, r_name, r_number, r_text, r_constant, r_paren, r_array_none, r_array, r_array_comma, r_object_none, r_object, r_object_comma, r_function, r_tilde, r_dollar, r_element, first_expr, next_expr, first_prop, next_prop, function_of, tilde_of, dollar_of, e_self, e_void, e_children, a_plain, a_quoted, a_tilde, a_dollar, no_attribute, next_attribute, c_text, c_element, c_tilde, c_dollar, no_child, next_child, d_only, d_as, first_decl, next_decl, o_absent, o_present, f_optional, f_vars, block_of, b_block, b_single, s_var, s_if, s_if_else, s_while, s_for, s_return, s_return_value, s_jump, s_throw, s_try, s_block, s_empty, s_expression, no_stmt, next_stmt, i_function, i_statement, no_item, next_item, IsProgram, tag_mark}
 use Rattle.mt_grammar.specs.Nodes as n
-use Rattle.mt_syntax.specs.declared.tree.VarKind.{VarKind}
+use Rattle.mt_tree.specs.declared.operators.VarKind.{VarKind}
 use Rattle.mt_grammar.specs.declared.terminal.Terminal.{Terminal}
 use Rattle.mt_grammar.specs.Rose.{rose, Roses, no_roses, roses_and, title_roses, names_roses, key_rose, expr_rose, attribute_rose, child_rose, decl_rose, optional_rose, start_rose, stmt_rose, exprs_roses, attributes_roses, children_roses, decls_roses, stmts_roses, props_roses}
 use Rattle.mt_builder.proofs.Numbers.{weight, weights}

@@ -1,7 +1,7 @@
 use crate::tier::Tier;
 use mt_grammar::{Constant, Heading, Infix, Jump};
-use mt_syntax::{Binary, Mark, StepKind, Unary, VarKind};
-use mt_tree::{Place, Text};
+use mt_syntax::Mark;
+use mt_tree::{Binary, Place, StepKind, Text, Unary, VarKind};
 
 // What a node is, apart from the nodes in it, with its text read. A number in it counts nodes in it.
 #[derive(Drop)]

@@ -8,7 +8,7 @@ use Rattle.mt_syntax.specs.Sort as sort
 use Rattle.mt_syntax.specs.Fold.{StmtKindLayer, on_stmt_kind}
 use Rattle.mt_syntax.specs.declared.tree.Mark.{Mark}
 use Rattle.mt_syntax.specs.declared.tree.StmtKind.{StmtKind}
-use Rattle.mt_syntax.specs.declared.tree.VarKind.TheVariants as word
+use Rattle.mt_tree.specs.declared.operators.VarKind.TheVariants as word
 use Rattle.mt_syntax.specs.declared.tree.ExprKind.TheOpen.{StmtKind-F}
 use Rattle.mt_syntax_laws.proofs.Layers.{map_stmt_kind}
 use Rattle.mt_syntax_laws.proofs.Related.{Preserved, Two, lefts, related_stmt_kind}

@@ -1,7 +1,7 @@
 ghost use Rattle.std.specs.Prelude.{◌≡◌};
 ghost use Rattle.mt_declared.specs.Builtins.{is_builtin, is_spelled, is_builtin_of_both, is_client_builtin, is_server_builtin};
 
-use mt_tree::Text;
+use mt_tree::{Text, builtin};
 
 fn is_spelled(name: &Text, word: &str) -> bool
     ensures { result ≡ is_spelled name.now word.now }
@@ -13,25 +13,27 @@ fn is_spelled(name: &Text, word: &str) -> bool
 pub fn builtin_of_both(name: &Text) -> bool
     ensures { result ≡ is_builtin_of_both name.now }
 {
-    is_spelled(name, "Object")
-        || is_spelled(name, "Array")
-        || is_spelled(name, "String")
-        || is_spelled(name, "Number")
-        || is_spelled(name, "Error")
+    is_spelled(name, builtin::OBJECT)
+        || is_spelled(name, builtin::ARRAY)
+        || is_spelled(name, builtin::STRING)
+        || is_spelled(name, builtin::NUMBER)
+        || is_spelled(name, builtin::ERROR)
 }
 
 /// Whether the server alone has a builtin of the name. Takes no memory.
 pub fn server_builtin(name: &Text) -> bool
     ensures { result ≡ is_server_builtin name.now }
 {
-    is_spelled(name, "log")
+    is_spelled(name, builtin::LOG)
 }
 
 /// Whether the client alone has a builtin of the name. Takes no memory.
 pub fn client_builtin(name: &Text) -> bool
     ensures { result ≡ is_client_builtin name.now }
 {
-    is_spelled(name, "alert") || is_spelled(name, "document") || is_spelled(name, "event")
+    is_spelled(name, builtin::ALERT)
+        || is_spelled(name, builtin::DOCUMENT)
+        || is_spelled(name, builtin::EVENT)
 }
 
 /// Whether a tier has a builtin of the name. Takes no memory.

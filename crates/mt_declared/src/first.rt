@@ -10,8 +10,8 @@ ghost use Rattle.mt_declared.specs.Repeated.{where_holding};
 use crate::declaration::{Declaration, DeclarationKind};
 use crate::predicate::Predicate;
 use crate::repeated::twice_at;
-use mt_syntax::{Broken, Decl, ForStart, Function, Mark, Stmt, StmtKind, VarKind, earlier};
-use mt_tree::{Boxed, Row};
+use mt_syntax::{Broken, Decl, ForStart, Function, Mark, Stmt, StmtKind, earlier};
+use mt_tree::{Boxed, Row, VarKind};
 
 // Each of these looks at the declarations that its contract names.
 

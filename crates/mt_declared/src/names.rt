@@ -3,8 +3,8 @@ ghost use Rattle.mt_syntax.specs.Fold.{on_decl, on_for_start, on_function, on_st
 ghost use Rattle.mt_declared.specs.Declarations.{declarations, declared, declared_by_item, declared_in_file, declaring, here_in, names_in, optional_variables, variables_in};
 
 use crate::declaration::{Declaration, DeclarationKind, declare};
-use mt_syntax::{Decl, ForStart, Function, Mark, Stmt, StmtKind, VarKind};
-use mt_tree::{Boxed, NoMemory, Row};
+use mt_syntax::{Decl, ForStart, Function, Mark, Stmt, StmtKind};
+use mt_tree::{Boxed, NoMemory, Row, VarKind};
 
 // Each of these adds, in text order, the declarations that its contract names.
 

@@ -2,8 +2,7 @@ use super::first_too_deep;
 use mt_grammar::Heading;
 use mt_marks::Mark;
 use mt_nodes::Node;
-use mt_syntax::Unary;
-use mt_tree::Place;
+use mt_tree::{Place, Unary};
 use std::test::Fail;
 
 fn at(column: u32) -> Place {

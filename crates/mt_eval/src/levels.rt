@@ -10,15 +10,13 @@ use mt_expressions::Expressions;
 use mt_frames::enter_unit;
 use mt_slots::{Expr, Function, Stmt, Unit};
 use mt_statements::Statements;
+use mt_tree::{CALL_LIMIT, DEPTH_LIMIT};
 use mt_value::{Address, Value};
 use std::alloc::Global;
 use std::marker::PhantomData;
 
-/// How many calls of functions may be in progress.
-const MOST_CALLS: usize = 48;
-
 /// How deep code may be.
-const DEEPEST: usize = 60;
+const DEEPEST: usize = DEPTH_LIMIT as usize;
 
 #[cycle(evaluate)]
 fn expr_to<H: Host>(
@@ -94,14 +92,14 @@ pub fn run_unit<H: Host>(
     let level = Evaluator {
         alloc,
         functions,
-        calls: MOST_CALLS,
+        calls: CALL_LIMIT,
         depth: DEEPEST,
         expr: expr_to,
         stmt: stmt_to,
         host: PhantomData,
     };
     let items = unit.body.statements.items();
-    Expressions { level }.body(MOST_CALLS, DEEPEST, frame.items(), state, host, items)
+    Expressions { level }.body(CALL_LIMIT, DEEPEST, frame.items(), state, host, items)
 }
 
 /// Calls a value; the call itself isn't counted.
@@ -122,7 +120,7 @@ pub fn run_call<H: Host>(
     let level = Evaluator {
         alloc,
         functions,
-        calls: MOST_CALLS + 1,
+        calls: CALL_LIMIT + 1,
         depth: DEEPEST,
         expr: expr_to,
         stmt: stmt_to,

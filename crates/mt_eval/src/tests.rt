@@ -1,8 +1,7 @@
 use super::*;
 use mt_evaluation::{Budget, Done, Host, NamedValue, Stop};
 use mt_slots::{Binding, Body, Decl, Expr, ForStart, Function, Hoisted, Name, Stmt, Unit};
-use mt_syntax::{Binary, StepKind};
-use mt_tree::{Boxed, NoMemory, Row, Text};
+use mt_tree::{Binary, Boxed, NoMemory, Row, StepKind, Text};
 use mt_value::{Cell, FunCell, Globals, Native, Store, Value};
 use std::alloc::Global;
 use std::test::Fail;

@@ -36,13 +36,14 @@ use Rattle.mt_syntax.specs.declared.tree.MarkupChild.{MarkupChild, out-MarkupChi
 use Rattle.mt_syntax.specs.declared.tree.MarkupValue.{MarkupValue, out-MarkupValue}
 use Rattle.mt_syntax.specs.declared.tree.Prop.{Prop, out-Prop}
 use Rattle.mt_syntax.specs.declared.tree.Stmt.{Stmt}
-use Rattle.mt_syntax.specs.declared.tree.VarKind.{VarKind}
-use Rattle.mt_syntax.specs.declared.tree.VarKind.TheVariants as word
-use Rattle.mt_syntax.specs.declared.tree.Binary.{Binary}
+use Rattle.mt_tree.specs.declared.operators.VarKind.{VarKind}
+use Rattle.mt_tree.specs.declared.operators.VarKind.TheVariants as word
+use Rattle.mt_tree.specs.declared.operators.Binary.{Binary}
 use Rattle.mt_syntax.specs.declared.tree.ExprKind.TheOpen.{ExprKind-F, ForStart-F, MarkupChild-F, MarkupValue-F, StmtKind-F}
 use Rattle.mt_value.specs.declared.cell.Property.{Property}
 use Rattle.mt_value.specs.declared.value.Value.{Value}
 use Rattle.mt_value.specs.declared.value.Value.TheVariants as value
+use Rattle.mt_tree.specs.Limits.{call_limit, depth_limit}
 
 -- the evaluation of the parts of a node
 pub record Parts (H : Type 0) : Type 0 where
@@ -225,14 +226,6 @@ module _ {H : Type 0} (around : Surroundings) (outside : Outside (Named H)) (p :
 
 -- ---- the recursion: by the calls of functions that may still begin, and within one of them by the depth of the syntax
 
--- no tree of a program is deeper
-abbrev pub deepest : ℕ
-deepest = 60
-
--- how many calls of functions may be in progress
-abbrev pub most_calls : ℕ
-most_calls = 48
-
 module _ {H A : Type 0} where
   abbrev pub beside_closures : Named H → Ran (State × H) A → Ran (State × Named H) A
   beside_closures n (gives a s) = gives a (s.0, record n { host = s.1 })
@@ -264,7 +257,7 @@ module _ {H : Type 0} (around : Surroundings) (host : Meaning H) where
   -- the call of the function in a cell, where so many may still begin
   abbrev pub enter_to : ℕ → Enter
   enter_to zero at arguments = with_closure at (λ c. leave (exit.Stop stop.Depth))
-  enter_to (suc left) at arguments = with_closure at (λ c. function_body around (outside_with (enter_to left)) (parts (enter_to left) deepest) c at arguments)
+  enter_to (suc left) at arguments = with_closure at (λ c. function_body around (outside_with (enter_to left)) (parts (enter_to left) depth_limit) c at arguments)
 
   -- ---- whole jobs
 
@@ -272,18 +265,18 @@ module _ {H : Type 0} (around : Surroundings) (host : Meaning H) where
   unfoldable pub file : List Stmt → Eval (Named H) Environment
   file items = do
     environment ← enter_file around items
-    body around (outside_with (enter_to most_calls)) (parts (enter_to most_calls) deepest) items environment
+    body around (outside_with (enter_to call_limit)) (parts (enter_to call_limit) depth_limit) items environment
     pure environment
 
   -- the code of a tilde, with values in the place of its dollars
   unfoldable pub client_code : List Stmt → Eval (Named H) Value
   client_code items = do
     environment ← enter_client around items
-    body around (outside_with (enter_to most_calls)) (parts (enter_to most_calls) deepest) items environment
+    body around (outside_with (enter_to call_limit)) (parts (enter_to call_limit) depth_limit) items environment
 
   -- a call that begins a job, and is not counted
   unfoldable pub called : Value → List Value → Eval (Named H) Value
-  called f arguments = calls.applied (outside_with (enter_to (suc most_calls))) f arguments
+  called f arguments = calls.applied (outside_with (enter_to (suc call_limit))) f arguments
 
 abbrev pub server_surroundings : Program → Surroundings
 server_surroundings p = record { tier = server; services = map (λ s. s.0) (services p.items); tildes = p.tildes; kept = whole }

@@ -18,11 +18,11 @@ use Rattle.mt_ops.specs.declared.error.Operator.TheVariants as operator
 use Rattle.mt_properties.specs.Costs.{steps, binary_units, unary_units, property_units}
 use Rattle.mt_properties.specs.Objects.{object_written}
 use Rattle.mt_syntax.specs.DataLimits.{nodes_of_data}
-use Rattle.mt_syntax.specs.declared.tree.Binary.{Binary}
-use Rattle.mt_syntax.specs.declared.tree.Binary.TheVariants as binary
-use Rattle.mt_syntax.specs.declared.tree.StepKind.{StepKind}
-use Rattle.mt_syntax.specs.declared.tree.StepKind.TheVariants as step
-use Rattle.mt_syntax.specs.declared.tree.Unary.{Unary}
+use Rattle.mt_tree.specs.declared.operators.Binary.{Binary}
+use Rattle.mt_tree.specs.declared.operators.Binary.TheVariants as binary
+use Rattle.mt_tree.specs.declared.operators.StepKind.{StepKind}
+use Rattle.mt_tree.specs.declared.operators.StepKind.TheVariants as step
+use Rattle.mt_tree.specs.declared.operators.Unary.{Unary}
 use Rattle.mt_tree.specs.declared.data.Data.{Data}
 use Rattle.mt_value.specs.declared.cell.Cell.TheVariants as cell
 use Rattle.mt_value.specs.declared.cell.Property.{Property}

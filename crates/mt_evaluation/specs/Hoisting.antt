@@ -7,8 +7,8 @@ use Rattle.mt_syntax.specs.declared.tree.Function.{Function, out-Function}
 use Rattle.mt_syntax.specs.declared.tree.Mark.{Mark}
 use Rattle.mt_syntax.specs.declared.tree.Stmt.{Stmt, out-Stmt}
 use Rattle.mt_syntax.specs.declared.tree.StmtKind.{out-StmtKind}
-use Rattle.mt_syntax.specs.declared.tree.VarKind.{VarKind}
-use Rattle.mt_syntax.specs.declared.tree.VarKind.TheVariants as word
+use Rattle.mt_tree.specs.declared.operators.VarKind.{VarKind}
+use Rattle.mt_tree.specs.declared.operators.VarKind.TheVariants as word
 use Rattle.mt_syntax.specs.declared.tree.ExprKind.TheOpen.{ForStart-F, StmtKind-F}
 
 abbrev pub kind_of : Stmt → StmtKindLayer Tree

@@ -1,5 +1,5 @@
 -- How names are bound and looked up while code is evaluated.
-use Rattle.std.specs.Prelude.{ℕ, Bool, if◌then◌else◌, List, [], ◌∷◌, codes, Option, None, Some}
+use Rattle.std.specs.Prelude.{ℕ, Bool, if◌then◌else◌, List, [], ◌∷◌, Option, None, Some}
 use Rattle.std.specs.List.{list_any}
 use Rattle.mt_evaluation.specs.declared.reference.Referent.{Referent}
 use Rattle.mt_evaluation.specs.declared.reference.Referent.TheVariants as refers
@@ -8,6 +8,7 @@ use Rattle.mt_syntax.specs.declared.tree.Function.{Function}
 use Rattle.mt_value.specs.Names.{is_same}
 use Rattle.mt_value.specs.declared.value.Native.{Native}
 use Rattle.mt_value.specs.declared.value.Native.TheVariants as native
+use Rattle.mt_tree.specs.Words.{object_name, array_name, string_name, number_name, error_name, log_name, alert_name, document_name, event_name}
 
 -- ---- environments
 
@@ -47,19 +48,19 @@ whole own f environment = environment
 -- ---- builtins
 
 abbrev pub builtin_of_tier : Tier → List ℕ → Option Native
-builtin_of_tier server name = if is_same name (codes "log") then Some native.Log else None
+builtin_of_tier server name = if is_same name log_name then Some native.Log else None
 builtin_of_tier client name =
-    if is_same name (codes "alert") then Some native.Alert else
-    if is_same name (codes "document") then Some native.Document else
-    if is_same name (codes "event") then Some native.Event else None
+    if is_same name alert_name then Some native.Alert else
+    if is_same name document_name then Some native.Document else
+    if is_same name event_name then Some native.Event else None
 
 unfoldable pub builtin_of : Tier → List ℕ → Option Native
 builtin_of tier name =
-    if is_same name (codes "Object") then Some native.Object else
-    if is_same name (codes "Array") then Some native.Array else
-    if is_same name (codes "String") then Some native.String else
-    if is_same name (codes "Number") then Some native.Number else
-    if is_same name (codes "Error") then Some native.Error else builtin_of_tier tier name
+    if is_same name object_name then Some native.Object else
+    if is_same name array_name then Some native.Array else
+    if is_same name string_name then Some native.String else
+    if is_same name number_name then Some native.Number else
+    if is_same name error_name then Some native.Error else builtin_of_tier tier name
 
 -- ---- what a name stands for
 

@@ -15,7 +15,7 @@ use mt_ops::is_truthy;
 use mt_properties::{binary_cost, property_cost, unary_cost};
 use mt_slots::{Expr, Function, Name, Stmt};
 use mt_steps::{binary, count, spend, unary};
-use mt_syntax::{Binary, StepKind, Unary};
+use mt_tree::{Binary, StepKind, Unary};
 use mt_value::{Address, Value};
 use std::alloc::Global;
 

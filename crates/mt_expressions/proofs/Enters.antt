@@ -1,6 +1,5 @@
 -- What the call of the function in a cell is.
 use Rattle.std.proofs.Common.{◌≡◌, ℕ, zero, suc, ◌-◌, ◌<◌, List, Some, None, refl, ap, ◌∙◌, arith, slice_get}
-use Rattle.mt_evaluation.specs.Evaluation.{deepest}
 use Rattle.mt_evaluation.specs.Host.{Meaning}
 use Rattle.mt_evaluation.specs.Runs.{leaves}
 use Rattle.mt_evaluation.specs.State.{Eval, on_state, throw}
@@ -12,12 +11,13 @@ use Rattle.mt_slots.specs.Slots.{function_body, function_in, with_function, ente
 use Rattle.mt_slots.specs.declared.function.Function.{Function}
 use Rattle.mt_value.specs.declared.cell.FunCell.{FunCell}
 use Rattle.mt_value.specs.declared.value.Value.{Value}
+use Rattle.mt_tree.specs.Limits.{depth_limit}
 
 module _ {H : Type 0} (functions : List Function) (host : Meaning H) (depth at : ℕ) (arguments : List Value) (s : State × H) where
   -- what is done with the function, where so many calls may begin
   abbrev entered : ℕ → FunCell → Eval H Value
   entered zero f = λ s. leaves (exit.Stop stop.Depth) s
-  entered (suc left) f = function_body functions (parts functions host left deepest) (slice_get functions f.function) f.captured at arguments
+  entered (suc left) f = function_body functions (parts functions host left depth_limit) (slice_get functions f.function) f.captured at arguments
 
   enters : (calls : ℕ) → (parts functions host calls depth).outside.enter at arguments s ≡ entered_by (entered calls) (function_in (slice_get s.0.store at)) s
   unfolding parts with_function
@@ -31,7 +31,7 @@ module _ {H : Type 0} (functions : List Function) (host : Meaning H) (depth at :
   no_call calls f e none = enters calls ∙ ap (λ g. entered_by (entered calls) g s) e ∙ ap (λ n. entered n f s) none
 
   pub one_call : (calls : ℕ) (f : FunCell) → function_in (slice_get s.0.store at) ≡ Some f → 0 < calls
-      → (parts functions host calls depth).outside.enter at arguments s ≡ function_body functions (parts functions host (calls - 1) deepest) (slice_get functions f.function) f.captured at arguments s
+      → (parts functions host calls depth).outside.enter at arguments s ≡ function_body functions (parts functions host (calls - 1) depth_limit) (slice_get functions f.function) f.captured at arguments s
   one_call calls f e some =
       let one : calls ≡ suc (calls - 1) = omega arith in
       enters calls ∙ ap (λ g. entered_by (entered calls) g s) e ∙ ap (λ n. entered n f s) one

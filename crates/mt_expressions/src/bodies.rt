@@ -1,11 +1,11 @@
 ghost use Rattle.std.specs.Prelude.{◌≡◌, ◌≤◌, ◌<◌, ◌-◌, IfOk, slice_get};
 ghost use Rattle.std.specs.Option.{option_copied};
-ghost use Rattle.mt_evaluation.specs.Evaluation.{deepest};
 ghost use Rattle.mt_evaluation.specs.Statements as statements;
 ghost use Rattle.mt_evaluation.specs.Runs.{Evals};
 ghost use Rattle.mt_evaluator.specs.Nests.{Nests, rank};
 ghost use Rattle.mt_slots.specs.Slots as spec;
 ghost use Rattle.mt_slots.specs.Slots.{parts};
+ghost use Rattle.mt_tree.specs.Limits.{depth_limit};
 
 use crate::expressions::Expressions;
 use mt_evaluation::{Completion, Exit, Host, State, Stop};
@@ -13,12 +13,12 @@ use mt_frames::{copied, enter_function};
 use mt_ops::ErrorKind;
 use mt_slots::{Expr, Function, Stmt};
 use mt_steps::throw;
-use mt_tree::NoMemory;
+use mt_tree::{DEPTH_LIMIT, NoMemory};
 use mt_value::{Address, Cell, FunCell, Store, Value};
 use std::alloc::Global;
 
 /// How deep the code of a function may be.
-const DEEPEST: usize = 60;
+const DEEPEST: usize = DEPTH_LIMIT as usize;
 
 fn returned(ending: Completion) -> Value
     ensures { result ≡ statements.returned ending }
@@ -109,7 +109,7 @@ impl<
     ) -> Result<Value, Exit>
         requires some { 0 < self.now.level.calls }
         requires nests { Nests H.meaning (rank self.now.level.calls self.now.level.depth) (F.pre self.now.level.expr) (F.post self.now.level.expr) (G.pre self.now.level.stmt) (G.post self.now.level.stmt) }
-        ensures { Evals (spec.function_body self.now.level.functions.now (parts self.now.level.functions.now H.meaning (self.now.level.calls - 1) deepest) (option_copied function.entry) captured.now at arguments.now (state.old, host.old)) result (state.new, host.new) }
+        ensures { Evals (spec.function_body self.now.level.functions.now (parts self.now.level.functions.now H.meaning (self.now.level.calls - 1) depth_limit) (option_copied function.entry) captured.now at arguments.now (state.old, host.old)) result (state.new, host.new) }
     {
         let Some(function) = function else {
             return Err(throw(self.level.alloc, state, &ErrorKind::NotFunction));

@@ -7,7 +7,7 @@ ghost use Rattle.mt_slots.specs.Slots.{parts};
 use crate::expressions::Expressions;
 use mt_evaluation::{Completion, Exit, Host, State};
 use mt_slots::{Expr, Function, Stmt};
-use mt_syntax::Binary;
+use mt_tree::Binary;
 use mt_value::{Address, Value};
 use std::alloc::Global;
 

@@ -15,7 +15,7 @@ use Rattle.mt_syntax.specs.declared.tree.Mark.{Mark}
 use Rattle.mt_syntax.specs.declared.tree.Stmt.{Stmt}
 use Rattle.mt_syntax.specs.declared.tree.StmtKind as tree
 use Rattle.mt_syntax.specs.declared.tree.StmtKind.TheVariants as statement
-use Rattle.mt_syntax.specs.declared.tree.VarKind.{VarKind}
+use Rattle.mt_tree.specs.declared.operators.VarKind.{VarKind}
 use Rattle.mt_syntax_laws.proofs.Related.{at_decl, at_expr, at_for_start, at_stmt_kind}
 
 -- ---- uses

@@ -6,8 +6,8 @@ ghost use Rattle.mt_syntax.specs.Gathering.{or_none};
 ghost use Rattle.mt_syntax.specs.declared.tree.Function.{out-Function};
 
 use crate::names::push_name;
-use mt_syntax::{Decl, ForStart, Function, Stmt, StmtKind, VarKind};
-use mt_tree::{Boxed, NoMemory, Row, Text};
+use mt_syntax::{Decl, ForStart, Function, Stmt, StmtKind};
+use mt_tree::{Boxed, NoMemory, Row, Text, VarKind};
 use std::alloc::Global;
 
 /// The names that the body declares by `var`, at any depth outside inner functions, in text order.

@@ -3,8 +3,7 @@ ghost use Rattle.mt_agreement.specs.Free as spec;
 ghost use Rattle.mt_syntax.specs.Gathering.{all_of};
 
 use crate::names::{push_name, without};
-use mt_syntax::VarKind;
-use mt_tree::{NoMemory, Text};
+use mt_tree::{NoMemory, Text, VarKind};
 use std::alloc::Global;
 use std::marker::Model;
 

@@ -2,8 +2,8 @@
 use Rattle.std.proofs.Common.{◌&&◌, nat_le, Some, None, ◌≡◌, ℕ, suc, ◌+◌, ◌≤◌, Bool, true, false, List, [], ◌∷◌, ◌++◌, refl, sym, ap, ◌∙◌, arith}
 use Rattle.std.proofs.lemmas.Bool.{le-leb}
 use Rattle.mt_tree.specs.declared.place.Place.{Place}
-use Rattle.mt_syntax.specs.declared.tree.VarKind.{VarKind}
-use Rattle.mt_syntax.specs.declared.tree.VarKind.TheVariants as var_kind
+use Rattle.mt_tree.specs.declared.operators.VarKind.{VarKind}
+use Rattle.mt_tree.specs.declared.operators.VarKind.TheVariants as var_kind
 use Rattle.mt_grammar.specs.declared.terminal.Declaration.{Declaration}
 use Rattle.mt_grammar.specs.declared.terminal.Declaration.TheVariants as declaration
 use Rattle.mt_grammar.specs.declared.terminal.Terminal.{Terminal}

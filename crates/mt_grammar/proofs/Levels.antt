@@ -1,7 +1,7 @@
 -- The levels at which tokens go on with an expression.
 use Rattle.std.proofs.Common.{◌&&◌, nat_le, ◌≡◌, ℕ, ◌≤◌, ◌<◌, Bool, true, false, [], ◌∷◌, refl, arith}
 use Rattle.std.proofs.lemmas.Bool.{lt-leb}
-use Rattle.mt_syntax.specs.declared.tree.Binary.TheVariants as binary_op
+use Rattle.mt_tree.specs.declared.operators.Binary.TheVariants as binary_op
 use Rattle.mt_grammar.specs.declared.terminal.Infix.{Infix}
 use Rattle.mt_grammar.specs.declared.terminal.Infix.TheVariants as infix_op
 use Rattle.mt_grammar.specs.declared.terminal.Terminal.{Terminal}

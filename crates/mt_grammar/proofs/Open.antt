@@ -2,10 +2,10 @@
 use Rattle.std.proofs.Common.{◌≡◌, nat_eq, ◌+◌, ◌≤◌, Bool, true, false, List, [], ◌∷◌, ◌++◌, Some, None, Option}
 use Rattle.mt_tree.specs.declared.place.Place.{Place}
 use Rattle.mt_tree.specs.Tables.{is_void_tag}
-use Rattle.mt_syntax.specs.declared.tree.Binary.{Binary}
-use Rattle.mt_syntax.specs.declared.tree.Unary.{Unary}
-use Rattle.mt_syntax.specs.declared.tree.VarKind.{VarKind}
-use Rattle.mt_syntax.specs.declared.tree.VarKind.TheVariants as var_kind
+use Rattle.mt_tree.specs.declared.operators.Binary.{Binary}
+use Rattle.mt_tree.specs.declared.operators.Unary.{Unary}
+use Rattle.mt_tree.specs.declared.operators.VarKind.{VarKind}
+use Rattle.mt_tree.specs.declared.operators.VarKind.TheVariants as var_kind
 use Rattle.mt_grammar.specs.declared.terminal.Declaration.{Declaration}
 use Rattle.mt_grammar.specs.declared.terminal.Declaration.TheVariants as declaration
 use Rattle.mt_grammar.specs.declared.terminal.Heading.{Heading}

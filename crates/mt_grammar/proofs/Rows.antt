@@ -1,6 +1,6 @@
 -- What holds of rows, of frames and of levels, apart from where the machine stands.
 use Rattle.std.proofs.Common.{◌≡◌, ℕ, zero, suc, ◌+◌, ◌-◌, ◌≤◌, true, ◌∷◌, refl, sym, ap, subst, arith}
-use Rattle.mt_syntax.specs.declared.tree.VarKind.{VarKind}
+use Rattle.mt_tree.specs.declared.operators.VarKind.{VarKind}
 use Rattle.mt_grammar.specs.declared.terminal.Terminal.TheVariants as k
 use Rattle.mt_grammar.specs.Token.{Token, Tokens, terminal}
 use Rattle.mt_grammar.specs.Stack.{Frame, Focus}

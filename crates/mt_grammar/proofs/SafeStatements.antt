@@ -2,10 +2,10 @@
 use Rattle.std.proofs.Common.{◌≡◌, ◌≢◌, Bool, true, false, cond, List, [], ◌∷◌, None, refl, sym, ap, ◌∙◌, subst}
 use Rattle.std.proofs.lemmas.Bool.{leb-true}
 use Rattle.mt_tree.specs.declared.place.Place.{Place}
-use Rattle.mt_syntax.specs.declared.tree.Binary.TheVariants as binary_op
-use Rattle.mt_syntax.specs.declared.tree.Unary.{Unary}
-use Rattle.mt_syntax.specs.declared.tree.Unary.TheVariants as unary_op
-use Rattle.mt_syntax.specs.declared.tree.VarKind.TheVariants as var_kind
+use Rattle.mt_tree.specs.declared.operators.Binary.TheVariants as binary_op
+use Rattle.mt_tree.specs.declared.operators.Unary.{Unary}
+use Rattle.mt_tree.specs.declared.operators.Unary.TheVariants as unary_op
+use Rattle.mt_tree.specs.declared.operators.VarKind.TheVariants as var_kind
 use Rattle.mt_grammar.specs.declared.terminal.Declaration.{Declaration}
 use Rattle.mt_grammar.specs.declared.terminal.Heading.{Heading}
 use Rattle.mt_grammar.specs.declared.terminal.Heading.TheVariants as heading

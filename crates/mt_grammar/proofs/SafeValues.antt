@@ -2,7 +2,7 @@
 use Rattle.std.proofs.Common.{◌≡◌, ℕ, suc, ◌≤◌, Bool, true, false, cond, ◌&&◌, nat_le, List, ◌∷◌, Option, None, refl, ◌∙◌, subst, arith}
 use Rattle.std.proofs.lemmas.Bool.{leb-true}
 use Rattle.mt_tree.specs.declared.place.Place.{Place}
-use Rattle.mt_syntax.specs.declared.tree.Binary.{Binary}
+use Rattle.mt_tree.specs.declared.operators.Binary.{Binary}
 use Rattle.mt_grammar.specs.declared.terminal.Infix.{Infix}
 use Rattle.mt_grammar.specs.declared.terminal.StepSign.{StepSign}
 use Rattle.mt_grammar.specs.declared.terminal.Terminal.{Terminal}

@@ -1,9 +1,9 @@
 -- How expressions and statements begin.
 use Rattle.std.proofs.Common.{◌≡◌, ℕ, Bool, true, false, List, [], ◌∷◌, refl, ap, ◌∙◌}
-use Rattle.mt_syntax.specs.declared.tree.Binary.TheVariants as binary_op
-use Rattle.mt_syntax.specs.declared.tree.Unary.{Unary}
-use Rattle.mt_syntax.specs.declared.tree.Unary.TheVariants as unary_op
-use Rattle.mt_syntax.specs.declared.tree.VarKind.TheVariants as var_kind
+use Rattle.mt_tree.specs.declared.operators.Binary.TheVariants as binary_op
+use Rattle.mt_tree.specs.declared.operators.Unary.{Unary}
+use Rattle.mt_tree.specs.declared.operators.Unary.TheVariants as unary_op
+use Rattle.mt_tree.specs.declared.operators.VarKind.TheVariants as var_kind
 use Rattle.mt_grammar.specs.declared.terminal.Infix.TheVariants as infix_op
 use Rattle.mt_grammar.specs.declared.terminal.Terminal.{Terminal}
 use Rattle.mt_grammar.specs.declared.terminal.Terminal.TheVariants as k

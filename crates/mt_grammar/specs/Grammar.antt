@@ -1,14 +1,14 @@
 -- The grammar, one case for each rule. `Reads l ts rest e`: the tokens ts, up to their suffix rest, are an expression of level l with the tree e.
 use Rattle.std.specs.Prelude.{◌≡◌, ◌≢◌, ℕ, suc, Bool, true, false, Option, None, [], ◌∷◌}
 use Rattle.mt_tree.specs.Tables.{is_void_tag}
-use Rattle.mt_syntax.specs.declared.tree.Binary.{Binary}
-use Rattle.mt_syntax.specs.declared.tree.Binary.TheVariants as binary_op
-use Rattle.mt_syntax.specs.declared.tree.StepKind.{StepKind}
-use Rattle.mt_syntax.specs.declared.tree.StepKind.TheVariants as step_kind
-use Rattle.mt_syntax.specs.declared.tree.Unary.{Unary}
-use Rattle.mt_syntax.specs.declared.tree.Unary.TheVariants as unary_op
-use Rattle.mt_syntax.specs.declared.tree.VarKind.{VarKind}
-use Rattle.mt_syntax.specs.declared.tree.VarKind.TheVariants as var_kind
+use Rattle.mt_tree.specs.declared.operators.Binary.{Binary}
+use Rattle.mt_tree.specs.declared.operators.Binary.TheVariants as binary_op
+use Rattle.mt_tree.specs.declared.operators.StepKind.{StepKind}
+use Rattle.mt_tree.specs.declared.operators.StepKind.TheVariants as step_kind
+use Rattle.mt_tree.specs.declared.operators.Unary.{Unary}
+use Rattle.mt_tree.specs.declared.operators.Unary.TheVariants as unary_op
+use Rattle.mt_tree.specs.declared.operators.VarKind.{VarKind}
+use Rattle.mt_tree.specs.declared.operators.VarKind.TheVariants as var_kind
 use Rattle.mt_grammar.specs.declared.terminal.Constant.{Constant}
 use Rattle.mt_grammar.specs.declared.terminal.Heading.{Heading}
 use Rattle.mt_grammar.specs.declared.terminal.Heading.TheVariants as heading

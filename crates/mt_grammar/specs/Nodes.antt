@@ -1,10 +1,10 @@
 -- The nodes of a tree in the order in which they are finished: each comes after those in it.
 use Rattle.std.specs.Prelude.{ℕ, List, [], ◌∷◌, ◌++◌, Option}
 use Rattle.mt_tree.specs.declared.place.Place.{Place}
-use Rattle.mt_syntax.specs.declared.tree.Binary.{Binary}
-use Rattle.mt_syntax.specs.declared.tree.StepKind.{StepKind}
-use Rattle.mt_syntax.specs.declared.tree.Unary.{Unary as UnarySign}
-use Rattle.mt_syntax.specs.declared.tree.VarKind.{VarKind}
+use Rattle.mt_tree.specs.declared.operators.Binary.{Binary}
+use Rattle.mt_tree.specs.declared.operators.StepKind.{StepKind}
+use Rattle.mt_tree.specs.declared.operators.Unary.{Unary as UnarySign}
+use Rattle.mt_tree.specs.declared.operators.VarKind.{VarKind}
 use Rattle.mt_grammar.specs.declared.terminal.Constant.{Constant as ConstantWord}
 use Rattle.mt_grammar.specs.declared.terminal.Heading.{Heading}
 use Rattle.mt_grammar.specs.declared.terminal.Infix.{Infix}

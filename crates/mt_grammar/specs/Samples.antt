@@ -1,8 +1,8 @@
 -- Small sources, and how far the machine reads them.
 use Rattle.std.specs.Prelude.{ℕ, ◌+◌, ◌-◌, ◌≡◌, Bool, true, false, List, [], ◌∷◌, codes, None}
 use Rattle.std.specs.Option.{is_some}
-use Rattle.mt_lexer.specs.declared.token.Kind.{Kind}
-use Rattle.mt_lexer.specs.declared.token.Kind.TheVariants as kind
+use Rattle.mt_tree.specs.declared.kind.Kind.{Kind}
+use Rattle.mt_tree.specs.declared.kind.Kind.TheVariants as kind
 use Rattle.mt_grammar.specs.Token.{Token, Tokens, nowhere}
 use Rattle.mt_grammar.specs.Machine.{Next, feed, finish, start}
 

@@ -1,9 +1,9 @@
 -- What the machine has open, and what it reads next.
 use Rattle.std.specs.Prelude.{ℕ, Bool, Option}
 use Rattle.mt_tree.specs.declared.place.Place.{Place}
-use Rattle.mt_syntax.specs.declared.tree.Binary.{Binary}
-use Rattle.mt_syntax.specs.declared.tree.StepKind.{StepKind}
-use Rattle.mt_syntax.specs.declared.tree.Unary.{Unary as UnarySign}
+use Rattle.mt_tree.specs.declared.operators.Binary.{Binary}
+use Rattle.mt_tree.specs.declared.operators.StepKind.{StepKind}
+use Rattle.mt_tree.specs.declared.operators.Unary.{Unary as UnarySign}
 use Rattle.mt_grammar.specs.declared.terminal.Declaration.{Declaration}
 use Rattle.mt_grammar.specs.declared.terminal.Heading.{Heading}
 use Rattle.mt_grammar.specs.declared.terminal.Infix.{Infix}

@@ -2,10 +2,10 @@
 use Rattle.std.specs.Prelude.{ℕ, Bool, true, false, ◌||◌, ◌&&◌, ◌==◌, nat_lt, not, List, [], ◌∷◌, codes, Some, None, if◌then◌else◌, drop}
 use Rattle.std.specs.Str.{bytes_eq}
 use Rattle.mt_tree.specs.declared.place.Place.{Place}
-use Rattle.mt_lexer.specs.declared.token.Kind.{Kind}
-use Rattle.mt_lexer.specs.declared.token.Kind.TheVariants as kind
-use Rattle.mt_syntax.specs.declared.tree.Binary.TheVariants as binary_op
-use Rattle.mt_syntax.specs.declared.tree.VarKind.TheVariants as var_kind
+use Rattle.mt_tree.specs.declared.kind.Kind.{Kind}
+use Rattle.mt_tree.specs.declared.kind.Kind.TheVariants as kind
+use Rattle.mt_tree.specs.declared.operators.Binary.TheVariants as binary_op
+use Rattle.mt_tree.specs.declared.operators.VarKind.TheVariants as var_kind
 use Rattle.mt_grammar.specs.declared.terminal.Constant.TheVariants as constant
 use Rattle.mt_grammar.specs.declared.terminal.Infix.TheVariants as infix_op
 use Rattle.mt_grammar.specs.declared.terminal.Jump.TheVariants as jump_word

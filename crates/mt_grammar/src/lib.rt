@@ -9,8 +9,8 @@
 //! machine reads exactly what has a derivation, and gives the nodes of its tree; a list of tokens
 //! has at most one tree, which is built again from its nodes; the machine refuses a token exactly
 //! where no program begins with the tokens up to it; and one pass over the nodes finds the first
-//! statement or expression that stands too deep. The crate stands on the tokens of the lexer and
-//! on the operators of the syntax tree. The parser does what the machine does.
+//! statement or expression that stands too deep. The crate stands on the kinds of tokens and
+//! the operators of `mt_tree`. The parser does what the machine does.
 #![tactic(auto)]
 
 mod laws;

@@ -1,4 +1,4 @@
-use mt_syntax::{Binary, VarKind};
+use mt_tree::{Binary, VarKind};
 
 /// A word that is a value.
 #[derive(Clone, Copy, Debug, PartialEq, Eq)]

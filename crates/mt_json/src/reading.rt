@@ -3,24 +3,23 @@ ghost use Rattle.mt_tree.specs.declared.data.Data.{Data};
 ghost use Rattle.mt_syntax.specs.DataText.{arguments_text as text_of_arguments, data_text as text_of_data};
 ghost use Rattle.mt_syntax.specs.DataLimits.{AreWithinLimits};
 
+use crate::data::{arguments_text, data_text};
 use crate::datum::are_data;
 use crate::extent::Extent;
 use crate::refusal::DataRefusal;
 use crate::rest::skip;
 use crate::values::{datum, items};
-use crate::data::{arguments_text, data_text};
-use mt_tree::{Data, NoMemory, Row};
+use mt_tree::{DATA_BYTE_LIMIT, DATA_DEPTH_LIMIT, DATA_NODE_LIMIT, Data, NoMemory, Row};
 use std::alloc::Global;
 use std::slice;
-
-// How deep the reader follows arrays and objects.
-const DEPTH: u32 = 40;
 
 fn are_within_limits(alloc: Global, items: &[Data]) -> Result<bool, NoMemory>
     ensures { IfOk result (λ fit. IsTrue fit ↔ AreWithinLimits items.now) }
 {
     let extent = Extent::of_items(items);
-    let small = extent.depth <= 40 && extent.nodes <= 20_000 && extent.bytes <= 262_144;
+    let small = extent.depth <= DATA_DEPTH_LIMIT
+        && extent.nodes <= DATA_NODE_LIMIT
+        && extent.bytes <= DATA_BYTE_LIMIT;
     Ok(small && are_data(alloc, items)?)
 }
 
@@ -46,7 +45,7 @@ pub fn read_data(alloc: Global, bytes: &[u8]) -> Result<Data, DataRefusal>
     ensures found { IfOk result (λ d. AreWithinLimits (d ∷ []) × (text_of_data d ≡ bytes.now)) }
     ensures refused { result ≡ Err DataRefusal.NotData → (d : Data) → AreWithinLimits (d ∷ []) → text_of_data d ≡ bytes.now → ⊥ }
 {
-    let (found, _rest) = datum(alloc, DEPTH, bytes)?;
+    let (found, _rest) = datum(alloc, DATA_DEPTH_LIMIT, bytes)?;
     let fits = is_within_limits(alloc, &found)?;
     if !fits {
         return Err(DataRefusal::NotData);
@@ -68,7 +67,7 @@ pub fn read_arguments(alloc: Global, bytes: &[u8]) -> Result<Row<Data>, DataRefu
     ensures found { IfOk result (λ ds. AreWithinLimits ds × (text_of_arguments ds ≡ bytes.now)) }
     ensures refused { result ≡ Err DataRefusal.NotData → (ds : List Data) → AreWithinLimits ds → text_of_arguments ds ≡ bytes.now → ⊥ }
 {
-    let (found, _rest) = items(alloc, DEPTH, skip(bytes, 1))?;
+    let (found, _rest) = items(alloc, DATA_DEPTH_LIMIT, skip(bytes, 1))?;
     let fit = are_within_limits(alloc, found.items())?;
     if !fit {
         return Err(DataRefusal::NotData);

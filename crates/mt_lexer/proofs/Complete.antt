@@ -4,7 +4,7 @@ use Rattle.mt_lexer.specs.declared.character.SourceChar.{SourceChar}
 use Rattle.mt_lexer.specs.declared.character.Class.{Class}
 use Rattle.mt_lexer.specs.declared.character.Class.TheVariants as c
 use Rattle.mt_lexer.specs.declared.character.Sign.TheVariants as sign
-use Rattle.mt_lexer.specs.declared.token.Kind.TheVariants as k
+use Rattle.mt_tree.specs.declared.kind.Kind.TheVariants as k
 use Rattle.mt_lexer.specs.declared.mode.Fault.TheVariants as fault
 use Rattle.mt_lexer.specs.declared.mode.Mode.{Mode}
 use Rattle.mt_lexer.specs.declared.mode.Mode.TheVariants as m
@@ -16,12 +16,13 @@ use Rattle.mt_lexer.specs.declared.character.Quote.TheVariants as quote
 use Rattle.mt_lexer.specs.declared.part.Part.TheVariants as p
 use Rattle.mt_lexer.specs.Character.{Chars, class, first, between, until, through, text_of}
 use Rattle.mt_lexer.specs.Sign.{is_greater, continues_tag, opener_of, opener_kind, begins_nothing_in_tag}
-use Rattle.mt_lexer.specs.Word.{void_tags, is_among, word_kind}
+use Rattle.mt_lexer.specs.Word.{word_kind}
 use Rattle.mt_lexer.specs.Spelling.{Outcome, token, refused, RunOf, opens_tag, Lexes, l_done, l_open, l_space, l_line_comment, l_block_comment, l_block_open, l_word, l_number, l_number_spoiled, l_number_large, l_text, l_text_refused, l_brace, l_close, l_close_first, l_single, l_three, l_two, l_one, l_stray, l_bad, l_opener, l_tag_open, g_end, g_space, g_name, g_equals, g_quoted, g_quoted_open, g_empty, g_void, g_children, g_bad, h_end, h_text, h_close, h_close_bad, h_close_unnamed, h_close_open, h_close_end, h_bad}
 use Rattle.mt_lexer.specs.Machine.{letter_by, follows, lexed}
 use Rattle.mt_lexer.proofs.Unroll.{head, stopped, at_class, run_stops}
 use Rattle.mt_lexer.proofs.Tables as t
 use Rattle.mt_lexer.proofs.Parts.{not_end, word_ends, words, numbers, number_spoiled, number_large, number_good, texts, lines, not_true, blocks, three, one, tag_names, attributes, values, child_texts, child_ends, child_begins, close_names, close_stops}
+use Rattle.mt_tree.specs.Tables.{is_among, void_tag_names}
 
 module _ (source : List ℕ) where
   -- ---- what every mode reads
@@ -43,7 +44,7 @@ module _ (source : List ℕ) where
   opener_at _ x y cs z ms b a e h f = absurd cc
 
   tag_opens : (x y : SourceChar) (cs rest : Chars) (z : Mode) (ms : List Mode) (b : Before) → class x ≡ (c.Sign sign.Less) → class y ≡ c.Letter → opens_tag z b ≡ true → RunOf continues_tag cs rest
-      → lexed source (x ∷ y ∷ cs) (z ∷ ms) b p.Fresh ≡ token k.TagOpen (until source x rest) (lexed source rest (m.Tag x.span.start (is_among void_tags (text_of source (until source y rest))) ∷ z ∷ ms) before.Other p.Fresh)
+      → lexed source (x ∷ y ∷ cs) (z ∷ ms) b p.Fresh ≡ token k.TagOpen (until source x rest) (lexed source rest (m.Tag x.span.start (is_among void_tag_names (text_of source (until source y rest))) ∷ z ∷ ms) before.Other p.Fresh)
   tag_opens x y cs rest (m.Code q) ms b e f h r =
       let ns = m.Code q ∷ ms in
       at_class source (c.Sign sign.Less) x (y ∷ cs) ns b p.Fresh e ∙ at_class source c.Letter y cs ns b (p.Sign x.span sign.Less) f

@@ -7,7 +7,7 @@ use Rattle.mt_lexer.specs.declared.character.Class.{Class}
 use Rattle.mt_lexer.specs.declared.character.Class.TheVariants as c
 use Rattle.mt_lexer.specs.declared.character.Sign.{Sign}
 use Rattle.mt_lexer.specs.declared.character.Sign.TheVariants as sign
-use Rattle.mt_lexer.specs.declared.token.Kind.TheVariants as k
+use Rattle.mt_tree.specs.declared.kind.Kind.TheVariants as k
 use Rattle.mt_lexer.specs.declared.mode.Fault.TheVariants as fault
 use Rattle.mt_lexer.specs.declared.mode.Mode.{Mode}
 use Rattle.mt_lexer.specs.declared.mode.Mode.TheVariants as m
@@ -21,12 +21,13 @@ use Rattle.mt_lexer.specs.declared.part.OpenEscape.{OpenEscape}
 use Rattle.mt_lexer.specs.declared.part.Part.TheVariants as p
 use Rattle.mt_lexer.specs.Character.{Chars, class_of, sign_class, ascii_class, wide_class, class, first, second, place, between, through, text_of}
 use Rattle.mt_lexer.specs.Sign.{is_space, is_slash, is_equals, is_open_brace, continues_name, continues_tag, continues_attribute, spoils_number, in_line, in_block, in_child_text, in_value, is_three, is_one}
-use Rattle.mt_lexer.specs.Word.{void_tags, is_among, word_kind, before_word, is_number}
+use Rattle.mt_lexer.specs.Word.{word_kind, before_word, is_number}
 use Rattle.mt_lexer.specs.Spelling.{Outcome, token, refused, Run, run_end, run_more, RunOf, TextEnd, closed, broken, InText, text_closes, text_plain, text_escape, text_bad_escape, text_unclosed, Digits, zero_alone, more_digits, CloseName, close_name}
 use Rattle.mt_lexer.specs.Machine.{go, emit, stop, here, step_by, fresh_by, word_by, number_by, equals_by, sign_equals_by, alone, close_space_by, ends, follows, end_mark, lexed}
 use Rattle.mt_lexer.proofs.Unroll.{head, next, unroll, afresh, afresh_at, again, stopped, at_class, run, run_stops}
 use Rattle.mt_lexer.proofs.Escapes.{after_escape, escapes}
 use Rattle.mt_lexer.proofs.Tables as t
+use Rattle.mt_tree.specs.Tables.{is_among, void_tag_names}
 
 abbrev pub is_end : Class → Bool
 is_end c.End = true
@@ -195,16 +196,16 @@ module _ (source : List ℕ) where
   -- ---- tags and children
 
   pub tag_name_ends : (rest : Chars) (s n : ℕ) (ms : List Mode) (b : Before) → continues_tag (first rest) ≡ false
-      → lexed source rest ms b (p.TagName s n) ≡ token k.TagOpen (between s (place source rest)) (lexed source rest (m.Tag s (is_among void_tags (text_of source (between n (place source rest)))) ∷ ms) before.Other p.Fresh)
+      → lexed source rest ms b (p.TagName s n) ≡ token k.TagOpen (between s (place source rest)) (lexed source rest (m.Tag s (is_among void_tag_names (text_of source (between n (place source rest)))) ∷ ms) before.Other p.Fresh)
   tag_name_ends [] s n ms b h = refl
   tag_name_ends (x ∷ rest) s n ms b h =
-      ap (λ (v : Bool). follows (lexed source rest) (if v then go ms b (p.TagName s n) else emit k.TagOpen (here source x s) (fresh_by source x (class x) before.Other (m.Tag s (is_among void_tags (text_of source (here source x n))) ∷ ms)))) h
+      ap (λ (v : Bool). follows (lexed source rest) (if v then go ms b (p.TagName s n) else emit k.TagOpen (here source x s) (fresh_by source x (class x) before.Other (m.Tag s (is_among void_tag_names (text_of source (here source x n))) ∷ ms)))) h
 
   pub tag_names : {cs rest : Chars} → RunOf continues_tag cs rest → (s n : ℕ) (ms : List Mode) (b : Before)
-      → lexed source cs ms b (p.TagName s n) ≡ token k.TagOpen (between s (place source rest)) (lexed source rest (m.Tag s (is_among void_tags (text_of source (between n (place source rest)))) ∷ ms) before.Other p.Fresh)
+      → lexed source cs ms b (p.TagName s n) ≡ token k.TagOpen (between s (place source rest)) (lexed source rest (m.Tag s (is_among void_tag_names (text_of source (between n (place source rest)))) ∷ ms) before.Other p.Fresh)
   tag_names {cs} {rest} r s n ms b =
       run source r ms b (p.TagName s n)
-      (λ x y z h. ap (λ (v : Bool). if v then go ms b (p.TagName s n) else emit k.TagOpen (here source x s) (fresh_by source x y before.Other (m.Tag s (is_among void_tags (text_of source (here source x n))) ∷ ms))) h)
+      (λ x y z h. ap (λ (v : Bool). if v then go ms b (p.TagName s n) else emit k.TagOpen (here source x s) (fresh_by source x y before.Other (m.Tag s (is_among void_tag_names (text_of source (here source x n))) ∷ ms))) h)
       ∙ tag_name_ends rest s n ms b (run_stops r)
 
   pub attributes : {cs rest : Chars} → RunOf continues_attribute cs rest → (s : ℕ) (ms : List Mode) (b : Before)

@@ -11,7 +11,7 @@ use Rattle.mt_lexer.specs.declared.reading.Ending.TheVariants as ending
 use Rattle.mt_lexer.specs.declared.refusal.LexRefusal.{LexRefusal}
 use Rattle.mt_lexer.specs.declared.refusal.LexRefusal.TheVariants as refusal
 use Rattle.mt_lexer.specs.declared.lexer.Lexer.{Lexer}
-use Rattle.mt_lexer.specs.declared.token.Kind.TheVariants as k
+use Rattle.mt_tree.specs.declared.kind.Kind.TheVariants as k
 use Rattle.mt_lexer.specs.declared.mode.Fault.{Fault}
 use Rattle.mt_lexer.specs.declared.mode.Fault.TheVariants as fault
 use Rattle.mt_lexer.specs.declared.mode.Mode.TheVariants as m
@@ -23,10 +23,11 @@ use Rattle.mt_lexer.specs.Machine.{lexed}
 use Rattle.mt_lexer.specs.Order.{InOrder}
 use Rattle.mt_lexer.specs.Spelling.{Outcome, finished, refused}
 use Rattle.mt_lexer.specs.Tokens.{Mark, Spelled}
-use Rattle.mt_lexer.specs.Verdict.{marks_in, refusal_in, most_tokens, start_of, refusal_of, ended, verdict, Reads, reads_text, no_text, IsReading}
+use Rattle.mt_lexer.specs.Verdict.{marks_in, refusal_in, start_of, refusal_of, ended, verdict, Reads, reads_text, no_text, IsReading}
 use Rattle.mt_lexer.proofs.Complete.{one_outcome}
 use Rattle.mt_lexer.proofs.Ordered.{chained, ordered}
 use Rattle.mt_lexer.proofs.Total.{sound}
+use Rattle.mt_tree.specs.Limits.{token_limit}
 
 abbrev refused_by : LexRefusal → Result Spelled LexRefusal
 refused_by r = Err r
@@ -60,21 +61,21 @@ refusal_in-front : (ms : List Mark) (o : Outcome) → refusal_in (front ms o) �
 refusal_in-front [] o = refl
 refusal_in-front (t ∷ ms) o = refusal_in-front ms o
 
-few_verdict : (source : List ℕ) (ms : List Mark) (o : Outcome) → marks_in o ≡ [] → length ms ≤ most_tokens → verdict source (front ms o) ≡ ended source ms (refusal_in o)
+few_verdict : (source : List ℕ) (ms : List Mark) (o : Outcome) → marks_in o ≡ [] → length ms ≤ token_limit → verdict source (front ms o) ≡ ended source ms (refusal_in o)
 few_verdict source ms o none few =
     let same : marks_in (front ms o) ≡ ms = marks_in-front ms o ∙ ap (λ (l : List Mark). ms ++ l) none ∙ append-nil ms in
-    let many : Result Spelled LexRefusal = Err (refusal.TooManyTokens (place_of source (start_of most_tokens ms))) in
-    ap (λ (l : List Mark). if nat_le (length l) most_tokens then ended source l (refusal_in (front ms o)) else refused_by (refusal.TooManyTokens (place_of source (start_of most_tokens l)))) same
-    ∙ ap (λ (b : Bool). if b then ended source ms (refusal_in (front ms o)) else many) (le-leb (length ms) most_tokens few)
+    let many : Result Spelled LexRefusal = Err (refusal.TooManyTokens (place_of source (start_of token_limit ms))) in
+    ap (λ (l : List Mark). if nat_le (length l) token_limit then ended source l (refusal_in (front ms o)) else refused_by (refusal.TooManyTokens (place_of source (start_of token_limit l)))) same
+    ∙ ap (λ (b : Bool). if b then ended source ms (refusal_in (front ms o)) else many) (le-leb (length ms) token_limit few)
     ∙ ap (λ (r : Option (Fault × ℕ)). ended source ms r) (refusal_in-front ms o)
 
-many_verdict : (source : List ℕ) (ms : List Mark) (o : Outcome) → most_tokens < length ms → verdict source (front ms o) ≡ Err (refusal.TooManyTokens (place_of source (start_of most_tokens ms)))
+many_verdict : (source : List ℕ) (ms : List Mark) (o : Outcome) → token_limit < length ms → verdict source (front ms o) ≡ Err (refusal.TooManyTokens (place_of source (start_of token_limit ms)))
 many_verdict source ms o many =
     let all = ms ++ marks_in o in
-    let long : most_tokens < length all = omega (arith, length-append ms (marks_in o)) in
-    ap (λ (l : List Mark). if nat_le (length l) most_tokens then ended source l (refusal_in (front ms o)) else refused_by (refusal.TooManyTokens (place_of source (start_of most_tokens l)))) (marks_in-front ms o)
-    ∙ ap (λ (b : Bool). if b then ended source all (refusal_in (front ms o)) else refused_by (refusal.TooManyTokens (place_of source (start_of most_tokens all)))) (lt-leb (length all) most_tokens long)
-    ∙ ap (λ (t : Mark). refused_by (refusal.TooManyTokens (place_of source t.span.start))) (get_or_append_left ms (marks_in o) (record { kind = k.Name; span = between 0 0 }) most_tokens many)
+    let long : token_limit < length all = omega (arith, length-append ms (marks_in o)) in
+    ap (λ (l : List Mark). if nat_le (length l) token_limit then ended source l (refusal_in (front ms o)) else refused_by (refusal.TooManyTokens (place_of source (start_of token_limit l)))) (marks_in-front ms o)
+    ∙ ap (λ (b : Bool). if b then ended source all (refusal_in (front ms o)) else refused_by (refusal.TooManyTokens (place_of source (start_of token_limit all)))) (lt-leb (length all) token_limit long)
+    ∙ ap (λ (t : Mark). refused_by (refusal.TooManyTokens (place_of source t.span.start))) (get_or_append_left ms (marks_in o) (record { kind = k.Name; span = between 0 0 }) token_limit many)
 
 abbrev pub read_whole : List ℕ → Outcome
 read_whole source = lexed source (characters source) (m.Code None ∷ []) before.Other p.Fresh
@@ -98,8 +99,8 @@ reads_refusal source f at ms u h = by_fault f (reads_as source (front ms (refuse
     by_fault fault.Unclosed d = d
     by_fault fault.NumberTooLarge d = d
 
-pub reads_many : (source : List ℕ) (ms : List Mark) → IsUtf8 source → Ends ending.TooManyTokens ms (read_whole source) → IsReading source (Err (refusal.TooManyTokens (place_of source (start_of most_tokens ms))))
-reads_many source ms u h = reads_as source (front ms h.0) (Err (refusal.TooManyTokens (place_of source (start_of most_tokens ms)))) u h.1 (many_verdict source ms h.0 h.2)
+pub reads_many : (source : List ℕ) (ms : List Mark) → IsUtf8 source → Ends ending.TooManyTokens ms (read_whole source) → IsReading source (Err (refusal.TooManyTokens (place_of source (start_of token_limit ms))))
+reads_many source ms u h = reads_as source (front ms h.0) (Err (refusal.TooManyTokens (place_of source (start_of token_limit ms)))) u h.1 (many_verdict source ms h.0 h.2)
 
 pub reads_no_text : (source : List ℕ) (n : ℕ) → IsValidUpTo source n → IsReading source (Err (refusal.NotUtf8 (place_of source n)))
 reads_no_text source n v = one_reading source (Err (refusal.NotUtf8 (place_of source n))) (no_text v)

@@ -7,7 +7,7 @@ use Rattle.mt_lexer.specs.declared.character.Class.{Class}
 use Rattle.mt_lexer.specs.declared.character.Class.TheVariants as c
 use Rattle.mt_lexer.specs.declared.character.Sign.{Sign}
 use Rattle.mt_lexer.specs.declared.character.Sign.TheVariants as sign
-use Rattle.mt_lexer.specs.declared.token.Kind.TheVariants as k
+use Rattle.mt_tree.specs.declared.kind.Kind.TheVariants as k
 use Rattle.mt_lexer.specs.declared.mode.Fault.TheVariants as fault
 use Rattle.mt_lexer.specs.declared.mode.Mode.{Mode}
 use Rattle.mt_lexer.specs.declared.mode.Mode.TheVariants as m

@@ -5,7 +5,7 @@ use Rattle.mt_lexer.specs.declared.character.Class.{Class}
 use Rattle.mt_lexer.specs.declared.character.Class.TheVariants as c
 use Rattle.mt_lexer.specs.declared.character.Sign.{Sign}
 use Rattle.mt_lexer.specs.declared.character.Sign.TheVariants as sign
-use Rattle.mt_lexer.specs.declared.token.Kind.TheVariants as k
+use Rattle.mt_tree.specs.declared.kind.Kind.TheVariants as k
 use Rattle.mt_lexer.specs.declared.mode.Fault.TheVariants as fault
 use Rattle.mt_lexer.specs.declared.mode.Mode.{Mode}
 use Rattle.mt_lexer.specs.declared.mode.Mode.TheVariants as m
@@ -18,13 +18,14 @@ use Rattle.mt_lexer.specs.declared.character.Quote.TheVariants as quote
 use Rattle.mt_lexer.specs.declared.part.Part.TheVariants as p
 use Rattle.mt_lexer.specs.Character.{Chars, class, first, second, place, between, until, through, text_of}
 use Rattle.mt_lexer.specs.Sign.{is_space, is_digit, is_slash, is_equals, is_open_brace, is_greater, starts_name, continues_name, continues_tag, continues_attribute, spoils_number, in_line, in_block, in_child_text, opener_of, opener_kind, quote_of, in_value, sign_of, is_single, before_single, is_three, is_two, before_two, is_one, is_stray, begins_nothing, begins_nothing_in_tag, follows_no_less, allows_tag}
-use Rattle.mt_lexer.specs.Word.{void_tags, is_among, word_kind, before_word, is_number}
+use Rattle.mt_lexer.specs.Word.{word_kind, before_word, is_number}
 use Rattle.mt_lexer.specs.Spelling.{Outcome, finished, token, refused, Run, RunOf, closed, broken, Digits, zero_alone, more_digits, CloseName, close_name, opens_tag, Lexes, l_done, l_open, l_space, l_line_comment, l_block_comment, l_block_open, l_word, l_number, l_number_spoiled, l_number_large, l_text, l_text_refused, l_brace, l_close, l_close_first, l_single, l_three, l_two, l_one, l_stray, l_bad, l_opener, l_tag_open, g_end, g_space, g_name, g_equals, g_quoted, g_quoted_open, g_empty, g_void, g_children, g_bad, h_end, h_text, h_close, h_close_bad, h_close_unnamed, h_close_open, h_close_end, h_bad}
 use Rattle.mt_lexer.specs.Machine.{lexed}
 use Rattle.mt_lexer.proofs.Unroll.{run_stops}
 use Rattle.mt_lexer.proofs.Parts.{not_end}
 use Rattle.mt_lexer.proofs.Complete.{complete}
 use Rattle.mt_lexer.proofs.Runs.{decide, both_true, not_false, run_has, Texts, text_has}
+use Rattle.mt_tree.specs.Tables.{is_among, void_tag_names}
 
 -- ---- every place has an outcome
 
@@ -76,7 +77,7 @@ module _ (source : List ℕ) where
         by_rest : (cs : Chars) → first cs ≡ c.Letter → ((v : Bool) (rest : Chars) → length rest ≤ length cs → Some_outcome (m.Tag x.span.start v ∷ z ∷ ms) before.Other rest) → Some_outcome (z ∷ ms) b (x ∷ cs)
         by_rest [] f next = absurd cc
         by_rest (y ∷ rest) f next =
-            let r = run_has (λ v w. continues_tag v) rest refl in let d = next (is_among void_tags (text_of source (until source y r.0))) r.0 (omega (arith, r.2)) in
+            let r = run_has (λ v w. continues_tag v) rest refl in let d = next (is_among void_tag_names (text_of source (until source y r.0))) r.0 (omega (arith, r.2)) in
             (token k.TagOpen (until source x r.0) d.0, l_tag_open e f h r.1 d.1)
 
     module _ (q : Option ℕ) (ms : List Mode) (root : Rooted (m.Code q ∷ ms)) where

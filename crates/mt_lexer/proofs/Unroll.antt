@@ -3,7 +3,7 @@ use Rattle.std.proofs.Common.{◌≡◌, ℕ, Bool, true, false, List, [], ◌�
 use Rattle.mt_tree.specs.declared.place.Span.{Span}
 use Rattle.mt_lexer.specs.declared.character.SourceChar.{SourceChar}
 use Rattle.mt_lexer.specs.declared.character.Class.{Class}
-use Rattle.mt_lexer.specs.declared.token.Kind.{Kind}
+use Rattle.mt_tree.specs.declared.kind.Kind.{Kind}
 use Rattle.mt_lexer.specs.declared.mode.Fault.{Fault}
 use Rattle.mt_lexer.specs.declared.mode.Mode.{Mode}
 use Rattle.mt_lexer.specs.declared.mode.Before.{Before}

@@ -6,8 +6,8 @@ use Rattle.mt_lexer.specs.declared.character.Class.{Class}
 use Rattle.mt_lexer.specs.declared.character.Class.TheVariants as c
 use Rattle.mt_lexer.specs.declared.character.Sign.{Sign}
 use Rattle.mt_lexer.specs.declared.character.Sign.TheVariants as sign
-use Rattle.mt_lexer.specs.declared.token.Kind.{Kind}
-use Rattle.mt_lexer.specs.declared.token.Kind.TheVariants as k
+use Rattle.mt_tree.specs.declared.kind.Kind.{Kind}
+use Rattle.mt_tree.specs.declared.kind.Kind.TheVariants as k
 use Rattle.mt_lexer.specs.declared.mode.Fault.{Fault}
 use Rattle.mt_lexer.specs.declared.mode.Fault.TheVariants as fault
 use Rattle.mt_lexer.specs.declared.mode.Mode.{Mode}
@@ -23,9 +23,10 @@ use Rattle.mt_lexer.specs.declared.part.OpenText.{OpenText}
 use Rattle.mt_lexer.specs.declared.part.OpenEscape.{OpenEscape}
 use Rattle.mt_lexer.specs.Character.{Chars, class, between, text_of}
 use Rattle.mt_lexer.specs.Sign.{is_digit, is_same_quote, continues_name, continues_tag, continues_attribute, spoils_number, opener_kind, allows_tag}
-use Rattle.mt_lexer.specs.Word.{void_tags, is_among, word_kind, before_word, is_number}
+use Rattle.mt_lexer.specs.Word.{word_kind, before_word, is_number}
 use Rattle.mt_lexer.specs.Escape.{is_simple_escape, is_hex, hex_more, is_high, is_low, is_character}
 use Rattle.mt_lexer.specs.Spelling.{Outcome, finished, token, refused}
+use Rattle.mt_tree.specs.Tables.{is_among, void_tag_names}
 
 pub data Next : Type 0 where
   go : List Mode → Before → Part → Next
@@ -251,7 +252,7 @@ module _ (source : List ℕ) (g : SourceChar) where
 
   abbrev pub tag_name_by : Class → ℕ → ℕ → Before → List Mode → Next
   tag_name_by y s n b ms =
-      if continues_tag y then go ms b (p.TagName s n) else emit k.TagOpen (here s) (fresh_by y before.Other (m.Tag s (is_among void_tags (text_of source (here n))) ∷ ms))
+      if continues_tag y then go ms b (p.TagName s n) else emit k.TagOpen (here s) (fresh_by y before.Other (m.Tag s (is_among void_tag_names (text_of source (here n))) ∷ ms))
 
   -- the end is refused at the opening of the tag
   abbrev pub tag_unclosed : List Mode → Next

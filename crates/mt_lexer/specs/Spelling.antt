@@ -6,8 +6,8 @@ use Rattle.mt_lexer.specs.declared.character.Class.{Class}
 use Rattle.mt_lexer.specs.declared.character.Class.TheVariants as c
 use Rattle.mt_lexer.specs.declared.character.Sign.{Sign}
 use Rattle.mt_lexer.specs.declared.character.Sign.TheVariants as sign
-use Rattle.mt_lexer.specs.declared.token.Kind.{Kind}
-use Rattle.mt_lexer.specs.declared.token.Kind.TheVariants as k
+use Rattle.mt_tree.specs.declared.kind.Kind.{Kind}
+use Rattle.mt_tree.specs.declared.kind.Kind.TheVariants as k
 use Rattle.mt_lexer.specs.declared.mode.Fault.{Fault}
 use Rattle.mt_lexer.specs.declared.mode.Fault.TheVariants as fault
 use Rattle.mt_lexer.specs.declared.mode.Mode.{Mode}
@@ -18,8 +18,9 @@ use Rattle.mt_lexer.specs.declared.mode.Opener.{Opener}
 use Rattle.mt_lexer.specs.declared.character.Quote.{Quote}
 use Rattle.mt_lexer.specs.Character.{Chars, class, first, second, place, between, until, through, text_of}
 use Rattle.mt_lexer.specs.Sign.{is_space, is_digit, starts_name, continues_name, continues_tag, continues_attribute, spoils_number, in_line, in_block, in_child_text, opener_of, opener_kind, quote_of, closes, is_plain, ends_line, in_value, sign_of, is_single, before_single, is_three, is_two, before_two, allows_tag, is_one, is_stray, begins_nothing, begins_nothing_in_tag, follows_no_less}
-use Rattle.mt_lexer.specs.Word.{void_tags, is_among, word_kind, before_word, is_number}
+use Rattle.mt_lexer.specs.Word.{word_kind, before_word, is_number}
 use Rattle.mt_lexer.specs.Escape.{escape}
+use Rattle.mt_tree.specs.Tables.{is_among, void_tag_names}
 
 -- the tokens, up to the end or the first refusal with its byte
 pub data Outcome : Type 0 where
@@ -111,7 +112,7 @@ pub data Lexes (source : List ℕ) : List Mode → Before → Chars → Outcome 
   l_opener : {b : Before} {z : Mode} {ms : List Mode} {x y : SourceChar} {cs : Chars} {o : Outcome} {a : Opener} → opener_of (class x) ≡ Some a → class y ≡ c.OpenBrace
       → Lexes source (m.Code (Some x.span.start) ∷ z ∷ ms) before.Other cs o → Lexes source (z ∷ ms) b (x ∷ y ∷ cs) (token (opener_kind a) (through x y) o)
   l_tag_open : {b : Before} {z : Mode} {ms : List Mode} {x y : SourceChar} {cs rest : Chars} {o : Outcome} → class x ≡ (c.Sign sign.Less) → class y ≡ c.Letter → opens_tag z b ≡ true → RunOf continues_tag cs rest
-      → Lexes source (m.Tag x.span.start (is_among void_tags (text_of source (until source y rest))) ∷ z ∷ ms) before.Other rest o → Lexes source (z ∷ ms) b (x ∷ y ∷ cs) (token k.TagOpen (until source x rest) o)
+      → Lexes source (m.Tag x.span.start (is_among void_tag_names (text_of source (until source y rest))) ∷ z ∷ ms) before.Other rest o → Lexes source (z ∷ ms) b (x ∷ y ∷ cs) (token k.TagOpen (until source x rest) o)
   -- a tag
   g_end : {q : ℕ} {v : Bool} {b : Before} {ms : List Mode} → Lexes source (m.Tag q v ∷ ms) b [] (refused fault.Unclosed q)
   g_space : {q : ℕ} {v : Bool} {b : Before} {ms : List Mode} {x : SourceChar} {cs : Chars} {o : Outcome} → is_space (class x) ≡ true → Lexes source (m.Tag q v ∷ ms) b cs o → Lexes source (m.Tag q v ∷ ms) b (x ∷ cs) o

@@ -1,7 +1,7 @@
 -- The tokens of a source, with the bytes that spell each.
 use Rattle.std.specs.Prelude.{◌≡◌, ℕ, List, [], ◌∷◌, ◌++◌}
 use Rattle.mt_tree.specs.declared.place.Span.{Span}
-use Rattle.mt_lexer.specs.declared.token.Kind.{Kind}
+use Rattle.mt_tree.specs.declared.kind.Kind.{Kind}
 use Rattle.mt_lexer.specs.declared.token.Token.{Token}
 use Rattle.mt_lexer.specs.Character.{text_of}
 

@@ -3,7 +3,7 @@ use Rattle.std.specs.Prelude.{◌≡◌, ℕ, nat_le, List, [], ◌∷◌, lengt
 use Rattle.std.specs.Str.{IsUtf8, IsValidUpTo}
 use Rattle.mt_tree.specs.declared.place.Place.{Place}
 use Rattle.mt_tree.specs.Place.{place_of}
-use Rattle.mt_lexer.specs.declared.token.Kind.TheVariants as k
+use Rattle.mt_tree.specs.declared.kind.Kind.TheVariants as k
 use Rattle.mt_lexer.specs.declared.mode.Fault.{Fault}
 use Rattle.mt_lexer.specs.declared.mode.Fault.TheVariants as fault
 use Rattle.mt_lexer.specs.declared.mode.Mode.TheVariants as m
@@ -13,6 +13,7 @@ use Rattle.mt_lexer.specs.declared.refusal.LexRefusal.TheVariants as refusal
 use Rattle.mt_lexer.specs.Character.{between, characters}
 use Rattle.mt_lexer.specs.Spelling.{Outcome, finished, token, refused, Lexes}
 use Rattle.mt_lexer.specs.Tokens.{Mark, Spelled}
+use Rattle.mt_tree.specs.Limits.{token_limit}
 
 abbrev pub marks_in : Outcome → List Mark
 marks_in finished = []
@@ -24,9 +25,6 @@ abbrev pub refusal_in : Outcome → Option (Fault × ℕ)
 refusal_in finished = None
 refusal_in (token kind span o) = refusal_in o
 refusal_in (refused f at) = Some (f, at)
-
-abbrev pub most_tokens : ℕ
-most_tokens = 200000
 
 -- the byte at which the token of this number begins, counted from 0
 abbrev pub start_of : ℕ → List Mark → ℕ
@@ -45,8 +43,8 @@ ended source marks (Some r) = Err (refusal_of r.0 (place_of source r.1))
 -- the first refusal that is met: one token too many is met at that token
 abbrev pub verdict : List ℕ → Outcome → Result Spelled LexRefusal
 verdict source o =
-    if nat_le (length (marks_in o)) most_tokens then ended source (marks_in o) (refusal_in o)
-    else Err (refusal.TooManyTokens (place_of source (start_of most_tokens (marks_in o))))
+    if nat_le (length (marks_in o)) token_limit then ended source (marks_in o) (refusal_in o)
+    else Err (refusal.TooManyTokens (place_of source (start_of token_limit (marks_in o))))
 
 -- how a source reads: bytes that are no text are refused behind their longest front that is one
 pub data Reads (source : List ℕ) : Result Spelled LexRefusal → Type 0 where

@@ -1,28 +1,12 @@
 -- Names, reserved words, numbers and tags by their bytes.
-use Rattle.std.specs.Prelude.{ℕ, ◌+◌, ◌-◌, ◌*◌, Bool, List, [], ◌∷◌, codes, nat_le, if◌then◌else◌}
-use Rattle.std.specs.List.{list_any}
-use Rattle.std.specs.Str.{bytes_eq}
-use Rattle.mt_lexer.specs.declared.token.Kind.{Kind}
-use Rattle.mt_lexer.specs.declared.token.Kind.TheVariants as k
+use Rattle.std.specs.Prelude.{ℕ, ◌+◌, ◌-◌, ◌*◌, Bool, List, [], ◌∷◌, nat_le, if◌then◌else◌}
+use Rattle.mt_tree.specs.declared.kind.Kind.{Kind}
+use Rattle.mt_tree.specs.declared.kind.Kind.TheVariants as k
 use Rattle.mt_lexer.specs.declared.mode.Before.{Before}
 use Rattle.mt_lexer.specs.declared.mode.Before.TheVariants as before
-
-abbrev pub reserved_words : List (List ℕ)
-reserved_words =
-    codes "break" ∷ codes "case" ∷ codes "catch" ∷ codes "class" ∷ codes "const" ∷ codes "continue" ∷ codes "debugger" ∷ codes "default" ∷ codes "delete" ∷ codes "do"
-    ∷ codes "else" ∷ codes "export" ∷ codes "extends" ∷ codes "false" ∷ codes "finally" ∷ codes "for" ∷ codes "function" ∷ codes "if" ∷ codes "import" ∷ codes "in"
-    ∷ codes "instanceof" ∷ codes "let" ∷ codes "new" ∷ codes "null" ∷ codes "return" ∷ codes "service" ∷ codes "super" ∷ codes "switch" ∷ codes "this" ∷ codes "throw"
-    ∷ codes "true" ∷ codes "try" ∷ codes "typeof" ∷ codes "undefined" ∷ codes "var" ∷ codes "void" ∷ codes "while" ∷ codes "with" ∷ codes "yield" ∷ []
-
--- the reserved words that are operands
-abbrev pub constant_words : List (List ℕ)
-constant_words = codes "false" ∷ codes "null" ∷ codes "true" ∷ codes "undefined" ∷ []
-
-abbrev pub void_tags : List (List ℕ)
-void_tags = codes "br" ∷ codes "hr" ∷ codes "input" ∷ []
-
-abbrev pub is_among : List (List ℕ) → List ℕ → Bool
-is_among words word = list_any (λ w. bytes_eq w word) words
+use Rattle.mt_tree.specs.Limits.{number_limit}
+use Rattle.mt_tree.specs.Tables.{is_among}
+use Rattle.mt_tree.specs.Words.{constant_words, reserved_words}
 
 abbrev pub word_kind : List ℕ → Kind
 word_kind word = if is_among reserved_words word then k.Reserved else k.Name
@@ -44,8 +28,5 @@ number_from v (x ∷ xs) = number_from (digit_more v x) xs
 abbrev pub number_of : List ℕ → ℕ
 number_of digits = number_from 0 digits
 
-abbrev pub greatest_number : ℕ
-greatest_number = 9007199254740991
-
 abbrev pub is_number : List ℕ → Bool
-is_number digits = nat_le (number_of digits) greatest_number
+is_number digits = nat_le (number_of digits) number_limit

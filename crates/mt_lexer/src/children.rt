@@ -8,8 +8,7 @@ use crate::character::{Class, Sign, SourceChar};
 use crate::lexer::{Flow, Lexer, Step};
 use crate::mode::{Before, Fault, Mode, Opener};
 use crate::part::Part;
-use crate::token::Kind;
-use mt_tree::Span;
+use mt_tree::{Kind, Span};
 
 impl Lexer<'_> {
     pub fn children(&mut self, at: SourceChar, class: Class, opening: u32) -> Step

@@ -8,7 +8,7 @@ use crate::character::{Class, SourceChar};
 use crate::lexer::{Flow, Lexer, Step};
 use crate::mode::{Before, Fault, Mode};
 use crate::part::{OpenText, Part};
-use crate::token::Kind;
+use mt_tree::Kind;
 
 impl Lexer<'_> {
     pub fn code(&mut self, at: SourceChar, class: Class, opening: Option<u32>) -> Step

@@ -8,8 +8,8 @@ ghost use Rattle.mt_lexer.specs.Tokens.{Mark, with_marks};
 use crate::character::{Class, SourceChar};
 use crate::mode::{Before, Fault, Mode, Modes};
 use crate::part::Part;
-use crate::token::{Kind, Tokens};
-use mt_tree::Span;
+use crate::token::Tokens;
+use mt_tree::{Kind, Span};
 use std::alloc::AllocError;
 
 /// How a step goes on.

@@ -32,4 +32,4 @@ mod word;
 pub use escape::{hex_more, is_character, is_hex, is_high, is_low, is_simple_escape};
 pub use reading::lex;
 pub use refusal::LexRefusal;
-pub use token::{Kind, Token, Tokens};
+pub use token::{Token, Tokens};

@@ -7,7 +7,8 @@ ghost use Rattle.mt_lexer.specs.Character.{characters_from};
 ghost use Rattle.mt_lexer.specs.Ending.{front, Ends};
 ghost use Rattle.mt_lexer.specs.Machine.{lexed};
 ghost use Rattle.mt_lexer.specs.Order.{InOrder};
-ghost use Rattle.mt_lexer.specs.Verdict.{IsReading, most_tokens, refusal_of};
+ghost use Rattle.mt_lexer.specs.Verdict.{IsReading, refusal_of};
+ghost use Rattle.mt_tree.specs.Limits.{source_limit};
 
 use crate::character::{Class, SourceChar, class_of};
 use crate::lexer::{Flow, Lexer};
@@ -15,10 +16,8 @@ use crate::mode::{Before, Fault, Mode, Modes};
 use crate::part::Part;
 use crate::refusal::LexRefusal;
 use crate::token::Tokens;
-use mt_tree::Place;
+use mt_tree::{Place, TOKEN_LIMIT};
 use std::alloc::{AllocError, Global};
-
-const MOST_TOKENS: usize = 200_000;
 
 /// How the reading of a text ended.
 #[derive(Clone, Copy)]
@@ -34,7 +33,7 @@ pub enum Ending {
 /// then gives these tokens. [`LexRefusal`] says when each refusal comes. The bytes are read once,
 /// from the front, and the cost grows with their number alone.
 pub fn lex(alloc: Global, source: &[u8]) -> Result<Tokens<'_>, LexRefusal>
-    requires small { length source.now ≤ 1048576 }
+    requires small { length source.now ≤ source_limit }
     ensures reading { IsReading source.now result }
     ensures order { IfOk result (λ tokens. InOrder 0 tokens.marks (length source.now)) }
 {
@@ -50,7 +49,7 @@ pub fn lex(alloc: Global, source: &[u8]) -> Result<Tokens<'_>, LexRefusal>
         Ending::Finished => Ok(lexer.tokens),
         Ending::Refused(fault, at) => Err(fault.at(place(source, at as usize))),
         Ending::TooManyTokens => {
-            let at = lexer.tokens.start_of(MOST_TOKENS);
+            let at = lexer.tokens.start_of(TOKEN_LIMIT);
             Err(LexRefusal::TooManyTokens(place(source, at as usize)))
         }
     }
@@ -58,7 +57,7 @@ pub fn lex(alloc: Global, source: &[u8]) -> Result<Tokens<'_>, LexRefusal>
 
 // Where the byte stands.
 fn place(source: &[u8], at: usize) -> Place
-    requires small { length source.now ≤ 1048576 }
+    requires small { length source.now ≤ source_limit }
     ensures { result ≡ place_of source.now at }
 {
     Place::of(source, at.min(source.len()) as u32)
@@ -93,9 +92,9 @@ impl<'a> Lexer<'a> {
 
     // The characters of the text one by one, up to the end or the first refusal.
     fn read(&mut self, text: &str) -> Result<Ending, AllocError>
-        requires small { length text.now ≤ 1048576 }
+        requires small { length text.now ≤ source_limit }
         requires source { self.old.tokens.source ≡ text.now }
-        requires few { length self.old.tokens.marks ≤ MOST_TOKENS }
+        requires few { length self.old.tokens.marks ≤ TOKEN_LIMIT }
         ensures source { OnOk result (self.new.tokens.source ≡ text.now) }
         ensures ends { IfOk result (λ e. Ends e self.new.tokens.marks (front self.old.tokens.marks (lexed text.now (characters_from 0 (chars text.now)) self.old.modes self.old.before Part.Fresh))) }
     {
@@ -104,7 +103,7 @@ impl<'a> Lexer<'a> {
         for c in text.chars() {
             let here = SourceChar::new(c, at);
             let flow = self.step(part, here, class_of(c))?;
-            if self.tokens.len() > MOST_TOKENS {
+            if self.tokens.len() > TOKEN_LIMIT {
                 return Ok(Ending::TooManyTokens);
             }
             match flow {
@@ -124,7 +123,7 @@ impl<'a> Lexer<'a> {
         ensures ends { IfOk result (λ e. Ends e self.new.tokens.marks (front self.old.tokens.marks (lexed self.old.tokens.source [] self.old.modes self.old.before part))) }
     {
         let flow = self.step(part, SourceChar::end(at), Class::End)?;
-        if self.tokens.len() > MOST_TOKENS {
+        if self.tokens.len() > TOKEN_LIMIT {
             return Ok(Ending::TooManyTokens);
         }
         match flow {

@@ -8,8 +8,7 @@ use crate::character::{Class, Sign, SourceChar};
 use crate::lexer::{Flow, Lexer, Step};
 use crate::mode::{Before, Fault, Mode, Opener};
 use crate::part::Part;
-use crate::token::Kind;
-use mt_tree::Span;
+use mt_tree::{Kind, Span};
 
 impl Opener {
     ghost use Rattle.mt_lexer.specs.Sign.{opener_kind};

@@ -8,9 +8,8 @@ use crate::character::{Class, Sign, SourceChar};
 use crate::lexer::{Flow, Lexer, Step};
 use crate::mode::{Before, Fault};
 use crate::part::Part;
-use crate::token::Kind;
 use crate::word::{before_word, is_number, word_kind};
-use mt_tree::Span;
+use mt_tree::{Kind, Span};
 
 impl Lexer<'_> {
     // The character where this part is open.

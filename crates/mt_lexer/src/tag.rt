@@ -8,8 +8,7 @@ use crate::character::{Class, Quote, Sign, SourceChar};
 use crate::lexer::{Flow, Lexer, Step};
 use crate::mode::{Before, Fault, Mode};
 use crate::part::Part;
-use crate::token::Kind;
-use mt_tree::{Span, tag_void};
+use mt_tree::{Kind, Span, tag_void};
 
 impl Lexer<'_> {
     pub fn tag(&mut self, at: SourceChar, class: Class, opening: u32, is_void: bool) -> Step

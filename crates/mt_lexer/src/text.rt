@@ -10,7 +10,7 @@ use crate::escape::{hex_more, is_character, is_hex, is_high, is_low, is_simple_e
 use crate::lexer::{Flow, Lexer, Step};
 use crate::mode::{Before, Fault};
 use crate::part::{OpenEscape, OpenText, Part};
-use crate::token::Kind;
+use mt_tree::Kind;
 
 impl Lexer<'_> {
     // A text is closed, or goes on.

@@ -1,82 +1,18 @@
 //! Names, reserved words and numbers by their bytes.
 
 ghost use Rattle.std.specs.Prelude.{◌≡◌, ◌<◌, ◌≤◌, ◌^◌, min, ◌+◌, length, take};
-ghost use Rattle.std.specs.List.{list_any};
-ghost use Rattle.std.specs.Str.{bytes_eq};
 ghost use Rattle.mt_lexer.specs.Word as spelling;
 
 use crate::mode::Before;
-use crate::token::Kind;
+use mt_tree::{Kind, NUMBER_LIMIT, word_constant, word_reserved};
 
-const RESERVED: [&[u8]; 39] = [
-    b"break",
-    b"case",
-    b"catch",
-    b"class",
-    b"const",
-    b"continue",
-    b"debugger",
-    b"default",
-    b"delete",
-    b"do",
-    b"else",
-    b"export",
-    b"extends",
-    b"false",
-    b"finally",
-    b"for",
-    b"function",
-    b"if",
-    b"import",
-    b"in",
-    b"instanceof",
-    b"let",
-    b"new",
-    b"null",
-    b"return",
-    b"service",
-    b"super",
-    b"switch",
-    b"this",
-    b"throw",
-    b"true",
-    b"try",
-    b"typeof",
-    b"undefined",
-    b"var",
-    b"void",
-    b"while",
-    b"with",
-    b"yield",
-];
-
-const CONSTANTS: [&[u8]; 4] = [b"false", b"null", b"true", b"undefined"];
-
-const GREATEST: u64 = 9_007_199_254_740_991;
-
-fn is_listed(words: &[&[u8]], word: &[u8]) -> bool
-    ensures { result ≡ list_any (λ w. bytes_eq w.now word.now) words.now }
-{
-    words.iter().any(|w| *w == word)
-}
-
-fn is_reserved(word: &[u8]) -> bool
-    ensures { result ≡ spelling.is_among spelling.reserved_words word.now }
-{
-    is_listed(&RESERVED, word)
-}
-
-fn is_constant(word: &[u8]) -> bool
-    ensures { result ≡ spelling.is_among spelling.constant_words word.now }
-{
-    is_listed(&CONSTANTS, word)
-}
+const GREATEST: u64 = NUMBER_LIMIT as u64;
 
 /// Whether the word is reserved or a name.
 pub fn word_kind(word: &[u8]) -> Kind
     ensures { result ≡ spelling.word_kind word.now }
 {
-    if is_reserved(word) {
+    if word_reserved(word) {
         Kind::Reserved
     } else {
         Kind::Name
@@ -90,7 +26,7 @@ pub fn before_word(before: Before, word: &[u8]) -> Before
     match before {
         Before::Dot => Before::Operand,
         Before::Operand | Before::Other => {
-            if is_reserved(word) && !is_constant(word) {
+            if word_reserved(word) && !word_constant(word) {
                 Before::Other
             } else {
                 Before::Operand

@@ -3,9 +3,9 @@ use Rattle.std.proofs.Common.{ℕ, suc, ◌+◌, ◌≤◌, Bool, true, false, L
 use Rattle.mt_tree.specs.declared.place.Place.{Place}
 use Rattle.mt_tree.specs.Tables.{is_void_tag}
 use Rattle.std.specs.Str.{bytes_eq}
-use Rattle.mt_syntax.specs.declared.tree.Binary.TheVariants as binary_op
-use Rattle.mt_syntax.specs.declared.tree.VarKind.{VarKind}
-use Rattle.mt_syntax.specs.declared.tree.VarKind.TheVariants as var_kind
+use Rattle.mt_tree.specs.declared.operators.Binary.TheVariants as binary_op
+use Rattle.mt_tree.specs.declared.operators.VarKind.{VarKind}
+use Rattle.mt_tree.specs.declared.operators.VarKind.TheVariants as var_kind
 use Rattle.mt_grammar.specs.declared.terminal.Declaration.{Declaration}
 use Rattle.mt_grammar.specs.declared.terminal.Declaration.TheVariants as declaration
 use Rattle.mt_grammar.specs.declared.terminal.Heading.{Heading}

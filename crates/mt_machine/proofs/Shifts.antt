@@ -1,7 +1,7 @@
 -- What a token does behind an expression where it is none of those that are told apart.
 use Rattle.std.proofs.Common.{◌≡◌, ℕ, Bool, List, Option, refl}
 use Rattle.mt_tree.specs.declared.place.Place.{Place}
-use Rattle.mt_syntax.specs.declared.tree.Binary.{Binary}
+use Rattle.mt_tree.specs.declared.operators.Binary.{Binary}
 use Rattle.mt_grammar.specs.declared.terminal.Infix.{Infix}
 use Rattle.mt_grammar.specs.declared.terminal.StepSign.{StepSign}
 use Rattle.mt_grammar.specs.declared.terminal.Terminal.{Terminal}

@@ -15,8 +15,7 @@ use crate::machine::{Machine, Step};
 use mt_grammar::{StepSign, Terminal};
 use mt_marks::Token;
 use mt_nodes::Node;
-use mt_syntax::StepKind;
-use mt_tree::Place;
+use mt_tree::{Place, StepKind};
 
 fn step_after(step: StepSign) -> StepKind
     ensures { result ≡ grammar.step_after step }

@@ -13,8 +13,7 @@ use crate::machine::{Machine, Step};
 use mt_grammar::{Declaration, Terminal};
 use mt_marks::Token;
 use mt_nodes::Node;
-use mt_syntax::VarKind;
-use mt_tree::Place;
+use mt_tree::{Place, VarKind};
 
 impl<'a> Machine<'a> {
     // A frame that a statement doesn't finish, back on the stack.

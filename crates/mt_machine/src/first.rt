@@ -14,7 +14,7 @@ use crate::machine::{Machine, Step};
 use mt_grammar::{Declaration, Terminal};
 use mt_marks::Token;
 use mt_nodes::Node;
-use mt_syntax::VarKind;
+use mt_tree::VarKind;
 
 // The frame ends at the terminal without an expression, or goes on without one.
 fn needs_none<'a>(terminal: Terminal, top: Frame<'a>) -> bool

@@ -1,7 +1,6 @@
 use mt_grammar::{Declaration, Heading, Infix, Jump};
 use mt_marks::Mark;
-use mt_syntax::{Binary, StepKind, Unary};
-use mt_tree::Place;
+use mt_tree::{Binary, Place, StepKind, Unary};
 
 /// What is open on the stack of the machine, with the place where it began and how much of it is finished.
 #[derive(Clone, Copy)]

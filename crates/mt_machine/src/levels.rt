@@ -9,8 +9,7 @@ ghost use Rattle.mt_machine.specs.Views.{frame_of};
 use crate::frame::Frame;
 use mt_grammar::{Infix, Terminal};
 use mt_nodes::Node;
-use mt_syntax::Binary;
-use mt_tree::Place;
+use mt_tree::{Binary, Place};
 
 fn level_of(operator: Infix) -> u8
     ensures { result ≡ grammar.level_of operator }

@@ -17,7 +17,7 @@ use crate::tag::tag_mark;
 use mt_grammar::{Infix, StepSign, Terminal};
 use mt_marks::Token;
 use mt_nodes::Node;
-use mt_syntax::{Binary, StepKind, Unary};
+use mt_tree::{Binary, StepKind, Unary};
 
 fn step_before(step: StepSign) -> StepKind
     ensures { result ≡ grammar.step_before step }

@@ -15,7 +15,7 @@ use crate::machine::{Machine, Step};
 use mt_grammar::{Declaration, Terminal};
 use mt_marks::Token;
 use mt_nodes::Node;
-use mt_syntax::VarKind;
+use mt_tree::VarKind;
 
 // A `const` has its value.
 fn needs_value(declaration: Declaration) -> bool

@@ -3,7 +3,7 @@ use Rattle.std.proofs.Common.{◌≡◌, ℕ, zero, suc, ◌+◌, ◌<◌, List,
 use Rattle.std.proofs.lemmas.List.{map-append, take_more}
 use Rattle.mt_tree.specs.declared.place.Place.{Place}
 use Rattle.mt_tree.specs.Place.{place_of}
-use Rattle.mt_lexer.specs.declared.token.Kind.{Kind}
+use Rattle.mt_tree.specs.declared.kind.Kind.{Kind}
 use Rattle.mt_lexer.specs.declared.token.Token.{Token as Lexed}
 use Rattle.mt_lexer.specs.Character.{text_of}
 use Rattle.mt_lexer.specs.Tokens.{Mark, marks_of, AllCut}

@@ -13,18 +13,20 @@ use Rattle.mt_lexer.specs.declared.mode.Before.{Before}
 use Rattle.mt_lexer.specs.declared.mode.Mode.{Mode}
 use Rattle.mt_lexer.specs.declared.mode.Opener.{Opener}
 use Rattle.mt_lexer.specs.declared.mode.Opener.TheVariants as opener
-use Rattle.mt_lexer.specs.declared.token.Kind.{Kind}
-use Rattle.mt_lexer.specs.declared.token.Kind.TheVariants as k
+use Rattle.mt_tree.specs.declared.kind.Kind.{Kind}
+use Rattle.mt_tree.specs.declared.kind.Kind.TheVariants as k
 use Rattle.mt_lexer.specs.Character.{Chars, characters_from, class, place, text_of}
 use Rattle.mt_lexer.specs.Escape.{escape}
 use Rattle.mt_lexer.specs.Sign.{is_digit, opener_kind}
 use Rattle.mt_lexer.specs.Spelling.{Outcome, Run, RunOf, run_end, run_more, TextEnd, closed, broken, InText, text_closes, text_plain, text_escape, text_bad_escape, text_unclosed, Digits, zero_alone, more_digits, CloseName, close_name, Lexes, l_done, l_open, l_space, l_line_comment, l_block_comment, l_block_open, l_word, l_number, l_number_spoiled, l_number_large, l_text, l_text_refused, l_brace, l_close, l_close_first, l_single, l_three, l_two, l_one, l_stray, l_bad, l_opener, l_tag_open, g_end, g_space, g_name, g_equals, g_quoted, g_quoted_open, g_empty, g_void, g_children, g_bad, h_end, h_text, h_close, h_close_bad, h_close_unnamed, h_close_open, h_close_end, h_bad}
 use Rattle.mt_lexer.specs.Tokens.{Mark}
 use Rattle.mt_lexer.specs.Verdict.{marks_in}
-use Rattle.mt_lexer.specs.Word.{word_kind, is_among, reserved_words}
+use Rattle.mt_lexer.specs.Word.{word_kind}
 use Rattle.mt_marks.specs.Readable.{FitsKind}
 use Rattle.mt_marks.proofs.Digits.{digit-is}
 use Rattle.mt_marks.proofs.Suffixes.{Ends, all, past, onward, Left, escape_left}
+use Rattle.mt_tree.specs.Tables.{is_among}
+use Rattle.mt_tree.specs.Words.{reserved_words}
 
 -- ---- what follows a run stands further on
 

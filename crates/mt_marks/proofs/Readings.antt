@@ -10,12 +10,13 @@ use Rattle.mt_lexer.specs.declared.refusal.LexRefusal.{LexRefusal}
 use Rattle.mt_lexer.specs.declared.refusal.LexRefusal.TheVariants as refusal
 use Rattle.mt_lexer.specs.Order.{InOrder}
 use Rattle.mt_lexer.specs.Tokens.{Mark, Spelled}
-use Rattle.mt_lexer.specs.Verdict.{marks_in, refusal_in, most_tokens, start_of, ended, Reads, reads_text, no_text}
+use Rattle.mt_lexer.specs.Verdict.{marks_in, refusal_in, start_of, ended, Reads, reads_text, no_text}
 use Rattle.mt_lexer.proofs.Ordered.{chained, ordered}
 use Rattle.mt_grammar.specs.Token.{Token}
 use Rattle.mt_marks.specs.Readable.{IsReadable}
 use Rattle.mt_marks.specs.Tokens.{token_in, tokens_in}
 use Rattle.mt_marks.proofs.Readable.{Cut, cut, bounded}
+use Rattle.mt_tree.specs.Limits.{token_limit}
 
 each : (source : List ℕ) (ts : List Mark) (low : ℕ) → IsUtf8 source → InOrder low ts (length source) → Cut source ts → All IsReadable (map (token_in source) ts)
 each source [] low u order h = λ i d l. absurd (omega arith)
@@ -39,7 +40,7 @@ accepted source false r ms e s h = absurd (cc)
 by_reading : (source : List ℕ) (r : Result Spelled LexRefusal) (s : Spelled) → Reads source r → r ≡ answer s → All IsReadable (tokens_in s)
 unfolding tokens_in
 by_reading source r s (reads_text {o} u d) h =
-    let same = accepted source (nat_le (length (marks_in o)) most_tokens) (refusal_in o) (marks_in o) (refusal.TooManyTokens (place_of source (start_of most_tokens (marks_in o)))) s h in
+    let same = accepted source (nat_le (length (marks_in o)) token_limit) (refusal_in o) (marks_in o) (refusal.TooManyTokens (place_of source (start_of token_limit (marks_in o)))) s h in
     let e = encodes-chars source u in
     let n = ap length e in
     let chain = chained source 0 (chars source) (omega arith) in

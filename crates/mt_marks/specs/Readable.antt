@@ -1,8 +1,8 @@
 -- What is true of the tokens of a source, as the lexer's definition says what they are.
 use Rattle.std.specs.Prelude.{◌≡◌, ℕ, true, List}
 use Rattle.std.specs.Str.{IsUtf8, all_ascii_digits}
-use Rattle.mt_lexer.specs.declared.token.Kind.{Kind}
-use Rattle.mt_lexer.specs.declared.token.Kind.TheVariants as k
+use Rattle.mt_tree.specs.declared.kind.Kind.{Kind}
+use Rattle.mt_tree.specs.declared.kind.Kind.TheVariants as k
 use Rattle.mt_lexer.specs.Word.{is_number}
 use Rattle.mt_grammar.specs.Token.{Token}
 

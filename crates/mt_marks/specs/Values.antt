@@ -7,6 +7,7 @@ use Rattle.mt_lexer.specs.declared.character.SourceChar.{SourceChar}
 use Rattle.mt_lexer.specs.Character.{Chars, between}
 use Rattle.mt_lexer.specs.Escape.{escape}
 use Rattle.mt_lexer.specs.Word as word
+use Rattle.mt_tree.specs.Limits.{number_limit}
 
 -- the characters that the bytes spell, and none where they aren't UTF-8
 unfoldable pub decoded : List ℕ → List ℕ
@@ -18,7 +19,7 @@ name_of text = decoded text
 
 -- the whole number that the digits spell, or the greatest one where they spell more
 unfoldable pub number_of : List ℕ → ℤ
-number_of digits = pos (min (word.number_of digits) word.greatest_number)
+number_of digits = pos (min (word.number_of digits) number_limit)
 
 -- all but the first and the last
 abbrev pub inside : List ℕ → List ℕ

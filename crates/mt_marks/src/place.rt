@@ -3,13 +3,14 @@
 ghost use Rattle.std.specs.Prelude.{◌≡◌, ◌≤◌, ◌<◌, ◌+◌, ◌^◌, length};
 ghost use Rattle.mt_tree.specs.Place.{place_of};
 ghost use Rattle.mt_marks.specs.Places.{placed};
+ghost use Rattle.mt_tree.specs.Limits.{source_limit};
 
 use mt_tree::Place;
 
 /// The place of the end of the source, which is the one behind its last character. The source has
 /// at most 1,048,576 bytes. Takes no memory.
 pub fn end_place(source: &[u8]) -> Place
-    requires small { length source.now ≤ 1048576 }
+    requires small { length source.now ≤ source_limit }
     ensures { result ≡ place_of source.now (length source.now) }
 {
     Place::of(source, source.len() as u32)
@@ -26,7 +27,7 @@ impl Cursor {
     /// At the byte `at`, or at the end where the source ends before it. To go on costs no more
     /// than the bytes between; to go back reads the source again.
     pub fn moved(self, source: &[u8], at: u32) -> Cursor
-        requires small { length source.now ≤ 1048576 }
+        requires small { length source.now ≤ source_limit }
         requires within { self.at ≤ length source.now }
         requires stands { self.place ≡ place_of source.now self.at }
         ensures within { result.at ≤ length source.now }

@@ -5,8 +5,7 @@ ghost use Rattle.mt_grammar.specs.Token as grammar;
 ghost use Rattle.mt_marks.specs.Rows.{row_of};
 
 use mt_grammar::{Constant, Infix, Jump, StepSign, Terminal};
-use mt_lexer::Kind;
-use mt_syntax::{Binary, VarKind};
+use mt_tree::{Binary, Kind, VarKind};
 
 /// A text with the terminal that it spells.
 #[derive(Clone, Copy)]

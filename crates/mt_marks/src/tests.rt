@@ -2,9 +2,8 @@
 
 use crate::{child_text, end_place, name, number, quoted, terminal_of, text, tokens_of};
 use mt_grammar::{Constant, Infix, Jump, StepSign, Terminal};
-use mt_lexer::{Kind, lex};
-use mt_syntax::{Binary, VarKind};
-use mt_tree::{NoMemory, Place, Text};
+use mt_lexer::lex;
+use mt_tree::{Binary, Kind, NoMemory, Place, Text, VarKind};
 use std::alloc::Global;
 use std::test::Fail;
 

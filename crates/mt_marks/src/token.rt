@@ -1,6 +1,6 @@
 use crate::mark::Mark;
 use mt_grammar::Terminal;
-use mt_lexer::Kind;
+use mt_tree::Kind;
 
 /// A token with its place, and what it is to the grammar.
 #[derive(Clone, Copy)]

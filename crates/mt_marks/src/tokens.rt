@@ -6,6 +6,7 @@ ghost use Rattle.mt_marks.specs.Views.{tokens_of};
 ghost use Rattle.mt_lexer.specs.Verdict.{Reads};
 ghost use Rattle.mt_marks.specs.Readable.{IsReadable};
 ghost use Rattle.mt_marks.specs.Tokens.{tokens_in, HasTerminal};
+ghost use Rattle.mt_tree.specs.Limits.{source_limit};
 
 use crate::mark::Mark;
 use crate::place::Cursor;
@@ -24,7 +25,7 @@ use std::alloc::{AllocError, Global};
 /// # Errors
 /// `AllocError`.
 pub fn tokens_of<'a>(alloc: Global, tokens: &Tokens<'a>) -> Result<Vec<Token<'a>>, AllocError>
-    requires small { length tokens.now.source ≤ 1048576 }
+    requires small { length tokens.now.source ≤ source_limit }
     ensures tokens { IfOk result (λ list. tokens_of list.items ≡ tokens_in tokens.now) }
     ensures terminals { IfOk result (λ list. All HasTerminal list.items) }
     ensures readable { IfOk result (λ list. (source : List ℕ) → Reads source (Ok tokens.now) → All IsReadable (tokens_of list.items)) }

@@ -11,6 +11,7 @@ use Rattle.mt_value.specs.declared.cell.Cell.TheVariants as cell
 use Rattle.mt_value.specs.declared.cell.Property.{Property}
 use Rattle.mt_value.specs.declared.value.Value.{Value}
 use Rattle.mt_value.specs.declared.value.Value.TheVariants as value
+use Rattle.mt_tree.specs.Limits.{data_node_limit, data_byte_limit}
 
 abbrev pub number_of : MarshalRule → ℕ
 number_of rule.M1 = 1
@@ -84,6 +85,6 @@ broken levels path v c =
     if is_html v then Some rule.M2 else
     if is_opaque v then Some rule.M3 else
     if stands_on path v then Some rule.M4 else
-    if (is_nested v && (levels == 0)) || nat_lt 20000 c.nodes then Some rule.M5 else
-    if nat_lt 262144 c.bytes then Some rule.M6 else
+    if (is_nested v && (levels == 0)) || nat_lt data_node_limit c.nodes then Some rule.M5 else
+    if nat_lt data_byte_limit c.bytes then Some rule.M6 else
     None

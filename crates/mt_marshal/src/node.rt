@@ -7,12 +7,8 @@ ghost use Rattle.mt_marshal.specs.Walks.{Does};
 use crate::counts::Counts;
 use crate::refusal::Refused;
 use crate::rule::MarshalRule;
+use mt_tree::{DATA_BYTE_LIMIT, DATA_NODE_LIMIT};
 use mt_value::{Address, Store, Value};
-
-/// The most nodes of a list of values.
-const NODES: u64 = 20_000;
-/// The most bytes of a list of values.
-const BYTES: u64 = 262_144;
 
 fn is_callable(value: &Value) -> bool
     ensures { result ≡ rules.is_callable value.now }
@@ -68,9 +64,9 @@ fn broken(levels: u32, path: &[Address], value: &Value, counts: Counts) -> Optio
         Some(MarshalRule::M3)
     } else if stands_on(path, value) {
         Some(MarshalRule::M4)
-    } else if is_nested(value) && levels == 0 || counts.nodes > NODES {
+    } else if is_nested(value) && levels == 0 || counts.nodes > DATA_NODE_LIMIT {
         Some(MarshalRule::M5)
-    } else if counts.bytes > BYTES {
+    } else if counts.bytes > DATA_BYTE_LIMIT {
         Some(MarshalRule::M6)
     } else {
         None

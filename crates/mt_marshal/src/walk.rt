@@ -15,12 +15,12 @@ use crate::counts::Counts;
 use crate::node::enter;
 use crate::refusal::Refused;
 use crate::rule::MarshalRule;
-use mt_tree::{Data, Entry, NoMemory, Row, Text};
+use mt_tree::{DATA_DEPTH_LIMIT, Data, Entry, NoMemory, Row, Text};
 use mt_value::{Address, Property, Store, Value};
 use std::alloc::Global;
 
 /// How many arrays and objects may stand in one another.
-pub(crate) const LEVELS: u32 = 40;
+pub(crate) const LEVELS: u32 = DATA_DEPTH_LIMIT;
 
 /// A text that shares the contents, with the fact that it holds characters.
 fn shared(text: &Text) -> Result<Text, NoMemory>

@@ -10,13 +10,9 @@ ghost use Rattle.mt_tree.specs.Text.{units_of};
 
 use crate::name::{MethodName, bad_argument};
 use mt_ops::{ErrorKind, Refusal, join_text, push_text};
-use mt_tree::{NoMemory, Text};
-use mt_tree::decimal_units;
+use mt_tree::{NoMemory, TEXT_LIMIT, Text, decimal_units};
 use mt_value::Value;
 use std::alloc::Global;
-
-/// The greatest length of a text, in units of UTF-16.
-const LONGEST: u64 = 1_048_576;
 
 /// Whether a text stands for the value. Takes no memory.
 #[tactic(auto, unfolding(mt_ops::specs::Texts::join_text))]
@@ -108,7 +104,7 @@ pub fn join(alloc: Global, items: &[Value], separator: Option<&Value>) -> Result
 {
     match separator {
         Some(Value::Text(separator)) if are_shown(items) => {
-            if joined_units(items, separator) > LONGEST {
+            if joined_units(items, separator) > TEXT_LIMIT {
                 return Err(Refusal::Error(ErrorKind::TextTooLong));
             }
             Ok(Value::Text(joined(alloc, items, separator)?))

@@ -8,8 +8,7 @@ ghost use Rattle.mt_tree.specs.Text.{units_of};
 use crate::argument::{argument, place_number, range};
 use crate::name::{MethodName, bad_argument, no_such};
 use mt_ops::{ErrorKind, Refusal};
-use mt_tree::Text;
-use mt_tree::{cut, find};
+use mt_tree::{Text, cut, find};
 use mt_value::Value;
 use std::alloc::Global;
 

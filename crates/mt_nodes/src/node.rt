@@ -1,7 +1,6 @@
 use mt_grammar::{Constant, Heading, Infix, Jump};
 use mt_marks::Mark;
-use mt_syntax::{Binary, StepKind, Unary, VarKind};
-use mt_tree::Place;
+use mt_tree::{Binary, Place, StepKind, Unary, VarKind};
 
 /// A node of the tree, with the place of its first token. A number in it counts the nodes that stand directly in it; these come before it, in the
 /// order of the text.

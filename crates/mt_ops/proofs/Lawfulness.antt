@@ -17,10 +17,10 @@ use Rattle.mt_ops.specs.declared.error.Operator.{Operator}
 use Rattle.mt_ops.specs.declared.error.Operator.TheVariants as operator
 use Rattle.mt_ops.specs.declared.outcome.Outcome.{Outcome}
 use Rattle.mt_ops.specs.declared.outcome.Outcome.TheVariants as outcome
-use Rattle.mt_syntax.specs.declared.tree.Binary.{Binary}
-use Rattle.mt_syntax.specs.declared.tree.Binary.TheVariants as binary
-use Rattle.mt_syntax.specs.declared.tree.Unary.{Unary}
-use Rattle.mt_syntax.specs.declared.tree.Unary.TheVariants as unary
+use Rattle.mt_tree.specs.declared.operators.Binary.{Binary}
+use Rattle.mt_tree.specs.declared.operators.Binary.TheVariants as binary
+use Rattle.mt_tree.specs.declared.operators.Unary.{Unary}
+use Rattle.mt_tree.specs.declared.operators.Unary.TheVariants as unary
 use Rattle.mt_tree.specs.declared.fault.NoMemory.{NoMemory}
 use Rattle.mt_value.proofs.Laws.{keeps_added, lawful_added}
 use Rattle.mt_value.specs.Lawful.{Kind, Names, LawfulValue, LawfulCell, Lawful}

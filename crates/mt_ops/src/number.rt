@@ -2,14 +2,13 @@ ghost use Rattle.std.specs.Prelude.{◌≡◌, neg_ℤ};
 ghost use Rattle.mt_ops.specs.Numbers as spec;
 
 use crate::error::ErrorKind;
-
-const GREATEST: i64 = 9_007_199_254_740_991;
+use mt_tree::NUMBER_LIMIT;
 
 /// The number, where it is in range.
 fn within(n: i64) -> Result<i64, ErrorKind>
     ensures { result ≡ spec.within n }
 {
-    if -GREATEST <= n && n <= GREATEST {
+    if -NUMBER_LIMIT <= n && n <= NUMBER_LIMIT {
         Ok(n)
     } else {
         Err(ErrorKind::NumberOutOfRange)

@@ -11,8 +11,7 @@ use crate::number;
 use crate::order::comes_before;
 use crate::outcome::{Outcome, Refusal, settle};
 use crate::text::{join_text, joined, plain, type_name};
-use mt_syntax::{Binary, Unary};
-use mt_tree::{NoMemory, Text};
+use mt_tree::{Binary, NoMemory, Text, Unary};
 use mt_value::{Store, Value};
 use std::alloc::Global;
 

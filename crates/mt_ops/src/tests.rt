@@ -2,8 +2,7 @@ use super::*;
 use Given::{
     Bool, Event, First, Frame, Function, Node, Null, Num, Object, Second, Service, Str, Undefined,
 };
-use mt_syntax::{Binary, Unary};
-use mt_tree::{NoMemory, Text};
+use mt_tree::{Binary, NoMemory, Text, Unary};
 use mt_value::{Address, Cell, Native, Store, Value};
 use std::alloc::Global;
 use std::test::Fail;

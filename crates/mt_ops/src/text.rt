@@ -9,12 +9,9 @@ ghost use Rattle.mt_value.specs.Limits.{text_fits};
 
 use crate::error::ErrorKind;
 use crate::outcome::Refusal;
-use mt_tree::{NoMemory, Text};
+use mt_tree::{NoMemory, TEXT_LIMIT, Text};
 use mt_value::{Native, Value};
 use std::alloc::Global;
-
-/// The greatest length of a text, in units of UTF-16.
-const LONGEST: u64 = 1_048_576;
 
 /// Puts a text behind another.
 #[tactic(auto, using(crate::proofs::Texts::pushed))]
@@ -104,7 +101,7 @@ pub fn join_text(alloc: Global, value: &Value) -> Result<Option<Text>, NoMemory>
 fn fits(a: &Text, b: &Text) -> bool
     ensures { result ≡ text_fits (a.now ++ b.now) }
 {
-    a.units().saturating_add(b.units()) <= LONGEST
+    a.units().saturating_add(b.units()) <= TEXT_LIMIT
 }
 
 /// Two texts as one.

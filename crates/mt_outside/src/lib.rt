@@ -40,7 +40,7 @@ pub use files::Files;
 pub use memory_files::{FileEntry, MemoryFiles};
 pub use memory_sink::MemorySink;
 pub use memory_wire::MemoryWire;
-pub use reading::{FILE_LIMIT, ReadFault, read_file};
+pub use reading::{ReadFault, read_file};
 pub use sink::Sink;
 pub use taking::{TakeFault, Taken, take_slot};
 pub use wire::{Slot, Wire};

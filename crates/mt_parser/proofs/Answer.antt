@@ -12,7 +12,8 @@ use Rattle.mt_syntax.specs.declared.program.Program.{Program}
 use Rattle.mt_builder.specs.Program.{program_of}
 use Rattle.mt_parser.specs.declared.refusal.ParseRefusal.{ParseRefusal}
 use Rattle.mt_parser.specs.declared.refusal.ParseRefusal.TheVariants.{Syntax, TooDeep, NoMemory}
-use Rattle.mt_parser.specs.Parsing.{Answers, IsAnswer, most_depth, place_or}
+use Rattle.mt_parser.specs.Parsing.{Answers, IsAnswer, place_or}
+use Rattle.mt_tree.specs.Limits.{depth_limit}
 
 take_front : (n m : ℕ) (ts : Tokens) → n ≤ m → take n (take m ts) ≡ take n ts
 take_front zero m ts h = refl
@@ -37,12 +38,12 @@ one_offending ts i j p q = omega (arith, not_before ts i j p q, not_before ts j 
 pub one_answer : (ts : Tokens) (end : Place) (a b : Result Program ParseRefusal) → IsAnswer a → IsAnswer b → Answers ts end a → Answers ts end b → a ≡ b
 one_answer ts end (Ok p) (Ok q) f g (ss, d, deep, e) (us, d', deep', e') = ap Ok (e ∙ ap program_of (unique ts ss us d d') ∙ sym e')
 one_answer ts end (Ok p) (Err (TooDeep place)) f g (ss, d, deep, e) (us, d', deep') =
-    absurd (let same : None ≡ Some place = sym deep ∙ ap (too_deep_at most_depth) (unique ts ss us d d') ∙ deep' in cc)
+    absurd (let same : None ≡ Some place = sym deep ∙ ap (too_deep_at depth_limit) (unique ts ss us d d') ∙ deep' in cc)
 one_answer ts end (Ok p) (Err (Syntax place)) f g (ss, d, deep, e) (i, o, e') = absurd (o.0 ss d)
 one_answer ts end (Err (TooDeep place)) (Ok q) f g (ss, d, deep) (us, d', deep', e') =
-    absurd (let same : Some place ≡ None = sym deep ∙ ap (too_deep_at most_depth) (unique ts ss us d d') ∙ deep' in cc)
+    absurd (let same : Some place ≡ None = sym deep ∙ ap (too_deep_at depth_limit) (unique ts ss us d d') ∙ deep' in cc)
 one_answer ts end (Err (TooDeep place)) (Err (TooDeep other)) f g (ss, d, deep) (us, d', deep') =
-    let same : Some place ≡ Some other = sym deep ∙ ap (too_deep_at most_depth) (unique ts ss us d d') ∙ deep' in cc
+    let same : Some place ≡ Some other = sym deep ∙ ap (too_deep_at depth_limit) (unique ts ss us d d') ∙ deep' in cc
 one_answer ts end (Err (TooDeep place)) (Err (Syntax other)) f g (ss, d, deep) (i, o, e') = absurd (o.0 ss d)
 one_answer ts end (Err (Syntax place)) (Ok q) f g (i, o, e) (us, d', deep', e') = absurd (o.0 us d')
 one_answer ts end (Err (Syntax place)) (Err (TooDeep other)) f g (i, o, e) (us, d', deep') = absurd (o.0 us d')

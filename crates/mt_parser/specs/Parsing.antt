@@ -10,9 +10,7 @@ use Rattle.mt_syntax.specs.declared.program.Program.{Program}
 use Rattle.mt_builder.specs.Program.{program_of}
 use Rattle.mt_parser.specs.declared.refusal.ParseRefusal.{ParseRefusal}
 use Rattle.mt_parser.specs.declared.refusal.ParseRefusal.TheVariants.{Syntax, TooDeep, NoMemory}
-
-abbrev pub most_depth : ℕ
-most_depth = 60
+use Rattle.mt_tree.specs.Limits.{depth_limit}
 
 -- where the first of the tokens stands, or else the end of the source
 abbrev pub place_or : Place → Tokens → Place
@@ -22,8 +20,8 @@ place_or end (t ∷ ts) = t.place
 -- The tokens are derived, and their tree is not too deep: its program. They are derived, but the tree is too deep: the place of the first node that is.
 -- They are not derived: the place of the first token that no program goes on with, or of the end.
 abbrev pub Answers : Tokens → Place → Result Program ParseRefusal → Type 0
-Answers ts end (Ok program) = (ss : Stmts) × IsProgram ts ss × (too_deep_at most_depth ss ≡ None) × (program ≡ program_of ss)
-Answers ts end (Err (TooDeep place)) = (ss : Stmts) × IsProgram ts ss × (too_deep_at most_depth ss ≡ Some place)
+Answers ts end (Ok program) = (ss : Stmts) × IsProgram ts ss × (too_deep_at depth_limit ss ≡ None) × (program ≡ program_of ss)
+Answers ts end (Err (TooDeep place)) = (ss : Stmts) × IsProgram ts ss × (too_deep_at depth_limit ss ≡ Some place)
 Answers ts end (Err (Syntax place)) = (i : ℕ) × IsOffending ts i × (place ≡ place_or end (drop i ts))
 Answers ts end (Err NoMemory) = Unit {0}
 

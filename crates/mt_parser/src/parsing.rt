@@ -4,6 +4,7 @@ ghost use Rattle.mt_marks.specs.Tokens.{tokens_in};
 ghost use Rattle.mt_tree.specs.Place.{place_of};
 ghost use Rattle.mt_parser.specs.Parsing.{Answers, place_or};
 ghost use Rattle.mt_marks.specs.Views as marks;
+ghost use Rattle.mt_tree.specs.Limits.{source_limit};
 
 use crate::refusal::ParseRefusal;
 use mt_builder::{build, nodes_are_few};
@@ -13,11 +14,8 @@ use mt_lexer::Tokens;
 use mt_machine::{ReadRefusal, read, refused_is_offending};
 use mt_marks::{Token, end_place, tokens_of};
 use mt_syntax::Program;
-use mt_tree::Place;
+use mt_tree::{DEPTH_LIMIT, Place};
 use std::alloc::Global;
-
-// The most statements and expressions on a path from the top of the file.
-const MOST_DEPTH: u16 = 60;
 
 /// The program that the tokens of a source are. The tokens are those that the lexer gave of a source of at most 1,048,576 bytes.
 ///
@@ -27,7 +25,7 @@ const MOST_DEPTH: u16 = 60;
 /// - `TooDeep` where the tree is deeper than 60, with the place of its first statement or expression at depth 61.
 /// - `NoMemory`.
 pub fn parse(alloc: Global, tokens: &Tokens<'_>) -> Result<Program, ParseRefusal>
-    requires small { length tokens.now.source ≤ 1048576 }
+    requires small { length tokens.now.source ≤ source_limit }
     requires read { Reads tokens.now.source (Ok tokens.now) }
     ensures { Answers (tokens_in tokens.now) (place_of tokens.now.source (length tokens.now.source)) result }
 {
@@ -43,7 +41,7 @@ pub fn parse(alloc: Global, tokens: &Tokens<'_>) -> Result<Program, ParseRefusal
         }
         Err(ReadRefusal::NoMemory) => return Err(ParseRefusal::NoMemory),
     };
-    match first_too_deep(alloc, &nodes, MOST_DEPTH)? {
+    match first_too_deep(alloc, &nodes, DEPTH_LIMIT)? {
         Some(place) => Err(ParseRefusal::TooDeep(place)),
         None => Ok(build(alloc, &nodes)?),
     }
@@ -51,7 +49,7 @@ pub fn parse(alloc: Global, tokens: &Tokens<'_>) -> Result<Program, ParseRefusal
 
 // The place of the token with that number, or of the end of the source.
 fn place_at(tokens: &[Token<'_>], number: usize, source: &[u8]) -> Place
-    requires small { length source.now ≤ 1048576 }
+    requires small { length source.now ≤ source_limit }
     ensures { result ≡ place_or (place_of source.now (length source.now)) (drop number (marks.tokens_of tokens.now)) }
 {
     if number < tokens.len() {

@@ -4,8 +4,8 @@ use Rattle.std.specs.Str.{encode_utf8_all}
 use Rattle.mt_tree.specs.Tables.{is_void_tag}
 use Rattle.mt_syntax.specs.Names.{is_attribute_name, is_name, is_tag_name}
 use Rattle.mt_syntax.specs.Shape.{is_assignment, is_some_item, opens_none}
-use Rattle.mt_syntax.specs.declared.tree.VarKind.{VarKind}
-use Rattle.mt_syntax.specs.declared.tree.VarKind.TheVariants as var_kind
+use Rattle.mt_tree.specs.declared.operators.VarKind.{VarKind}
+use Rattle.mt_tree.specs.declared.operators.VarKind.TheVariants as var_kind
 use Rattle.mt_grammar.specs.Tree.{Mark, Title, a_service, a_declaration, a_named_expression, an_expression, Names, no_names, names_and, Expr, name, number, text, property, constant, array, object, function, unary, step, operation, condition, assign, index, call, tilde, dollar, element, Exprs, no_exprs, exprs_and, Props, no_props, props_and, Attribute, attribute_plain, attribute_quoted, attribute_tilde, attribute_dollar, Attributes, no_attributes, attributes_and, Child, child_text, child_direct, child_dollar, Children, no_children, children_and, Decl, decl_only, decl_as, Decls, no_decls, decls_and, Optional, absent, present, Start, start_optional, start_vars, Stmt, expression, var, declare, if_only, if_else, while, for, return, jump, throw, try, block, empty, Stmts, no_stmts, stmts_and, is_target}
 use Rattle.mt_marks.specs.Values.{name_of, child_text_of}
 

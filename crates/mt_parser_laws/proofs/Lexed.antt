@@ -14,7 +14,7 @@ use Rattle.mt_lexer.specs.declared.mode.Mode.{Mode}
 use Rattle.mt_lexer.specs.declared.mode.Mode.TheVariants as m
 use Rattle.mt_lexer.specs.declared.mode.Opener.{Opener}
 use Rattle.mt_lexer.specs.declared.mode.Opener.TheVariants as opener
-use Rattle.mt_lexer.specs.declared.token.Kind.TheVariants as k
+use Rattle.mt_tree.specs.declared.kind.Kind.TheVariants as k
 use Rattle.mt_lexer.specs.Character.{Chars, class, first, second, text_of, until}
 use Rattle.mt_lexer.specs.Escape.{escape}
 use Rattle.mt_lexer.specs.Sign.{continues_attribute, continues_name, continues_tag, in_child_text, is_letter, opener_kind, starts_name}

@@ -9,8 +9,8 @@ use Rattle.mt_syntax_laws.proofs.Layers.{map_expr_kind, map_stmt_kind}
 use Rattle.mt_syntax_laws.proofs.Related.{on, at_expr, at_expr_kind, at_stmt, at_stmt_kind}
 use Rattle.mt_syntax.specs.declared.tree.ExprKind.{roll-ExprKind}
 use Rattle.mt_syntax.specs.declared.tree.StmtKind.{roll-StmtKind}
-use Rattle.mt_syntax.specs.declared.tree.VarKind.{VarKind}
-use Rattle.mt_syntax.specs.declared.tree.VarKind.TheVariants as var_kind
+use Rattle.mt_tree.specs.declared.operators.VarKind.{VarKind}
+use Rattle.mt_tree.specs.declared.operators.VarKind.TheVariants as var_kind
 use Rattle.mt_builder.specs.Syntax as made
 use Rattle.mt_parser_laws.proofs.Joins.{and_joins}
 

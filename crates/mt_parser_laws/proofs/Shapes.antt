@@ -17,8 +17,8 @@ use Rattle.mt_syntax.specs.declared.tree.Mark as syntax_mark
 use Rattle.mt_syntax.specs.declared.tree.MarkupChild.{MarkupChild}
 use Rattle.mt_syntax.specs.declared.tree.MarkupValue.{MarkupValue}
 use Rattle.mt_syntax.specs.declared.tree.Stmt as syntax_stmt
-use Rattle.mt_syntax.specs.declared.tree.VarKind.{VarKind}
-use Rattle.mt_syntax.specs.declared.tree.VarKind.TheVariants as var_kind
+use Rattle.mt_tree.specs.declared.operators.VarKind.{VarKind}
+use Rattle.mt_tree.specs.declared.operators.VarKind.TheVariants as var_kind
 use Rattle.mt_syntax.specs.declared.tree.ExprKind.TheOpen.{ExprKind-F, ForStart-F, MarkupChild-F, MarkupValue-F, StmtKind-F}
 use Rattle.mt_grammar.specs.declared.terminal.Constant.{Constant}
 use Rattle.mt_grammar.specs.declared.terminal.Constant.TheVariants as constant_word

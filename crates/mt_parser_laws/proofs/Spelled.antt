@@ -14,6 +14,7 @@ use Rattle.mt_marks.specs.Values.{behind, child_text_of, decoded, inside, named,
 use Rattle.mt_marks.proofs.Scalars.{Spells, unicode-spells}
 use Rattle.mt_marks.proofs.Suffixes.{Ends, all, past, Follows, Further, escape_at, escape_follows, named_follows}
 use Rattle.mt_syntax.specs.Shape.{is_number}
+use Rattle.mt_tree.specs.Limits.{number_limit}
 
 -- ---- characters
 
@@ -124,4 +125,4 @@ child_text_scalars text = let cs = decoded text in within_scalars next_in_value 
 
 pub number_is : (digits : List ℕ) → is_number (number_of digits) ≡ true
 unfolding number_of
-number_is digits = let n = min (word.number_of digits) word.greatest_number in lt-ltb n (2 ^ 53) (omega arith)
+number_is digits = let n = min (word.number_of digits) number_limit in lt-ltb n (2 ^ 53) (omega arith)

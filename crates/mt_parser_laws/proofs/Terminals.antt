@@ -3,11 +3,11 @@ use Rattle.std.proofs.Common.{◌≡◌, ℕ, Bool, true, false, ◌&&◌, not, 
 use Rattle.std.specs.Prelude.{if◌then◌else◌}
 use Rattle.std.specs.Str.{bytes_eq}
 use Rattle.std.proofs.lemmas.Bool.{true≢false, and_parts}
-use Rattle.mt_lexer.specs.declared.token.Kind.{Kind}
-use Rattle.mt_lexer.specs.declared.token.Kind.TheVariants as kind
+use Rattle.mt_tree.specs.declared.kind.Kind.{Kind}
+use Rattle.mt_tree.specs.declared.kind.Kind.TheVariants as kind
 use Rattle.mt_syntax.specs.Names.{is_attribute_name, is_name}
 use Rattle.mt_syntax.specs.Shape.{is_assignment}
-use Rattle.mt_syntax.specs.declared.tree.Binary.{Binary}
+use Rattle.mt_tree.specs.declared.operators.Binary.{Binary}
 use Rattle.mt_grammar.specs.declared.terminal.Terminal.{Terminal}
 use Rattle.mt_grammar.specs.declared.terminal.Terminal.TheVariants as k
 use Rattle.mt_grammar.specs.Token.{Token, Tokens, listed, open_name, signs, tag_bytes, tag_ends, terminal, terminal_of, words}

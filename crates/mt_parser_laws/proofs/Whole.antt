@@ -11,7 +11,7 @@ use Rattle.mt_lexer.specs.declared.mode.Fault.{Fault}
 use Rattle.mt_lexer.specs.declared.refusal.LexRefusal.{LexRefusal}
 use Rattle.mt_lexer.specs.declared.refusal.LexRefusal.TheVariants as refusal
 use Rattle.mt_lexer.specs.Tokens.{Mark, Spelled}
-use Rattle.mt_lexer.specs.Verdict.{ended, marks_in, most_tokens, no_text, reads_text, Reads, refusal_in, start_of}
+use Rattle.mt_lexer.specs.Verdict.{ended, marks_in, no_text, reads_text, Reads, refusal_in, start_of}
 use Rattle.mt_syntax.specs.Derivation.{IsDerived, IsDerivedTilde}
 use Rattle.mt_syntax.specs.Fold.{on_stmt}
 use Rattle.mt_syntax.specs.Shape.{Part, shaping}
@@ -30,6 +30,7 @@ use Rattle.mt_parser_laws.proofs.Numbers.{tildes_are_numbered}
 use Rattle.mt_parser_laws.proofs.Shapes.{stmts_made}
 use Rattle.mt_parser_laws.proofs.Terminals.{AllFit}
 use Rattle.mt_parser_laws.proofs.Tiers.{server_code}
+use Rattle.mt_tree.specs.Limits.{token_limit}
 
 -- ---- from the spelled tree
 
@@ -63,7 +64,7 @@ accepted source false r ms e s h = absurd (cc)
 by_reading : (source : List ℕ) (r : Result Spelled LexRefusal) (s : Spelled) → Reads source r → r ≡ answer s → AllFit (tokens_in s)
 unfolding tokens_in
 by_reading source r s (reads_text {o} u d) h =
-    let same = accepted source (nat_le (length (marks_in o)) most_tokens) (refusal_in o) (marks_in o) (refusal.TooManyTokens (place_of source (start_of most_tokens (marks_in o)))) s h in
+    let same = accepted source (nat_le (length (marks_in o)) token_limit) (refusal_in o) (marks_in o) (refusal.TooManyTokens (place_of source (start_of token_limit (marks_in o)))) s h in
     let cut = bounded source 0 (chars source) (omega arith) u (sym (encodes-chars source u)) in let scalars = source_scalars 0 (chars source) (scalars-chars source u) in
     subst (λ (s : Spelled). AllFit (map (token_in s.source) s.marks)) same (lexed source d (cut, scalars))
 by_reading source r s (no_text v) h = absurd (cc)

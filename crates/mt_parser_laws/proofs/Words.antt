@@ -8,8 +8,8 @@ use Rattle.std.proofs.lemmas.Slice.Eq.{bytes_eq-Decides}
 use Rattle.std.proofs.lemmas.Str.{encodes-IsAscii}
 use lib.Utf8.{encodes}
 use Rattle.unicode_ident.specs.Ident.{is_xid_continue}
-use Rattle.mt_lexer.specs.declared.token.Kind.TheVariants as kind
-use Rattle.mt_lexer.specs.Word.{is_among, word_kind}
+use Rattle.mt_tree.specs.declared.kind.Kind.TheVariants as kind
+use Rattle.mt_lexer.specs.Word.{word_kind}
 use Rattle.mt_lexer.specs.Word as word
 use Rattle.mt_syntax.specs.Names as names
 use Rattle.mt_syntax.specs.Names.{is_attribute_name, is_name, is_tag_name}
@@ -19,6 +19,8 @@ use Rattle.mt_parser_laws.proofs.Classes.{is_attribute_character, is_tag_charact
 use Rattle.mt_parser_laws.proofs.Fits.{TagFits}
 use Rattle.mt_parser_laws.proofs.Fronts.{decodes}
 use Rattle.mt_parser_laws.proofs.Terminals.{KindFits}
+use Rattle.mt_tree.specs.Tables.{is_among}
+use Rattle.mt_tree.specs.Words.{is_reserved, reserved_words}
 
 -- ---- ASCII
 
@@ -49,31 +51,31 @@ known_by_bytes (w ∷ known) vs small h =
         ap (λ z. bytes_eq w z || list_any (λ z. bytes_eq z (encodes vs)) known) bytes ∙ ap (λ b. b || list_any (λ z. bytes_eq z (encodes vs)) known) e
     by false e h here later = or_right (bytes_eq w (encodes vs)) (list_any (λ z. bytes_eq z (encodes vs)) known) (later h)
 
-not_reserved : (vs : List ℕ) → is_among word.reserved_words (encodes vs) ≡ false → not (names.is_reserved vs) ≡ true
-not_reserved vs h = by (names.is_reserved vs) refl
+not_reserved : (vs : List ℕ) → is_among reserved_words (encodes vs) ≡ false → not (is_reserved vs) ≡ true
+not_reserved vs h = by (is_reserved vs) refl
   where
-    by : (t : Bool) → names.is_reserved vs ≡ t → not t ≡ true
-    by true e = absurd (both_ways (is_among word.reserved_words (encodes vs)) h (known_by_bytes names.reserved_words vs refl e))
+    by : (t : Bool) → is_reserved vs ≡ t → not t ≡ true
+    by true e = absurd (both_ways (is_among reserved_words (encodes vs)) h (known_by_bytes reserved_words vs refl e))
     by false e = refl
 
-name_is : (v : ℕ) (vs : List ℕ) → names.starts_name v ≡ true → list_all is_xid_continue vs ≡ true → all_scalars (v ∷ vs) ≡ true → is_among word.reserved_words (encodes (v ∷ vs)) ≡ false → is_name (v ∷ vs) ≡ true
+name_is : (v : ℕ) (vs : List ℕ) → names.starts_name v ≡ true → list_all is_xid_continue vs ≡ true → all_scalars (v ∷ vs) ≡ true → is_among reserved_words (encodes (v ∷ vs)) ≡ false → is_name (v ∷ vs) ≡ true
 unfolding is_name
 name_is v vs begins continues scalars free =
-    and_from (all_scalars (v ∷ vs) && names.is_word (v ∷ vs)) (not (names.is_reserved (v ∷ vs)))
+    and_from (all_scalars (v ∷ vs) && names.is_word (v ∷ vs)) (not (is_reserved (v ∷ vs)))
     (and_from (all_scalars (v ∷ vs)) (names.is_word (v ∷ vs)) scalars (and_from (names.starts_name v) (list_all is_xid_continue vs) begins continues)) (not_reserved (v ∷ vs) free)
 
 -- a word of the source
 pub word_fits : (text : List ℕ) (v : ℕ) (vs : List ℕ) → text ≡ encodes (v ∷ vs) → names.starts_name v ≡ true → list_all is_xid_continue vs ≡ true → all_scalars (v ∷ vs) ≡ true → KindFits (word_kind text) text
-word_fits text v vs e begins continues scalars = by (is_among word.reserved_words text) refl
+word_fits text v vs e begins continues scalars = by (is_among reserved_words text) refl
   where
-    by : (t : Bool) → is_among word.reserved_words text ≡ t → KindFits (if t then kind.Reserved else kind.Name) text
+    by : (t : Bool) → is_among reserved_words text ≡ t → KindFits (if t then kind.Reserved else kind.Name) text
     by true h = tt
     by false h =
         let is : decoded text ≡ v ∷ vs = ap decoded e ∙ decodes (v ∷ vs) scalars in
-        ap is_name is ∙ name_is v vs begins continues scalars (ap (is_among word.reserved_words) (sym e) ∙ h)
+        ap is_name is ∙ name_is v vs begins continues scalars (ap (is_among reserved_words) (sym e) ∙ h)
 
 pub word_is_no_text : (text : List ℕ) → word_kind text ≡ kind.ChildText → ⊥
-word_is_no_text text = by (is_among word.reserved_words text)
+word_is_no_text text = by (is_among reserved_words text)
   where
     by : (t : Bool) → (if t then kind.Reserved else kind.Name) ≡ kind.ChildText → ⊥
     by true e = cc

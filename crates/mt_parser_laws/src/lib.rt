@@ -23,8 +23,9 @@ ghost use Rattle.mt_syntax.specs.Depth.{depth_of_program};
 ghost use Rattle.mt_syntax.specs.Derivation.{IsDerived};
 ghost use Rattle.mt_syntax.specs.declared.program.Program.{Program};
 ghost use Rattle.mt_builder.specs.Program.{program_of};
-ghost use Rattle.mt_parser.specs.Parsing.{Answers, most_depth};
+ghost use Rattle.mt_parser.specs.Parsing.{Answers};
 ghost use Rattle.mt_parser.specs.declared.refusal.ParseRefusal.TheVariants.{TooDeep};
+ghost use Rattle.mt_tree.specs.Limits.{depth_limit};
 
 /// The program that is answered for the tokens of a source is one that the grammar derives.
 pub fn parsed_program_is_derived()
@@ -33,10 +34,10 @@ pub fn parsed_program_is_derived()
 
 /// The program that is answered is at most 60 deep, its tildes and their dollars among it.
 pub fn parsed_program_is_not_too_deep()
-    ensures { (ts : Tokens) (end : Place) (program : Program) → Answers ts end (Ok program) → depth_of_program program ≤ most_depth }
+    ensures { (ts : Tokens) (end : Place) (program : Program) → Answers ts end (Ok program) → depth_of_program program ≤ depth_limit }
 {}
 
 /// Tokens that are refused as too deep would be a program that is more than 60 deep.
 pub fn refused_program_is_too_deep()
-    ensures { (ts : Tokens) (end place : Place) (ss : Stmts) → Answers ts end (Err (TooDeep place)) → IsProgram ts ss → most_depth < depth_of_program (program_of ss) }
+    ensures { (ts : Tokens) (end place : Place) (ss : Stmts) → Answers ts end (Err (TooDeep place)) → IsProgram ts ss → depth_limit < depth_of_program (program_of ss) }
 {}

@@ -8,6 +8,7 @@ use Rattle.mt_value.specs.declared.cell.Cell.TheVariants as cell
 use Rattle.mt_value.specs.declared.cell.Property.{Property}
 use Rattle.mt_value.specs.declared.value.Value.{Value}
 use Rattle.mt_value.specs.declared.value.Value.TheVariants as value
+use Rattle.mt_tree.specs.Limits.{error_limit}
 
 abbrev pub property_named : List ℕ → List Property → Option Value
 property_named name properties = value_at properties (place_of name properties)
@@ -32,4 +33,4 @@ within_bytes room [] = []
 within_bytes room (c ∷ cs) = if nat_le (len_utf8 c) room then c ∷ within_bytes (room - len_utf8 c) cs else []
 
 abbrev pub error_text : List Cell → Value → List ℕ
-error_text store v = within_bytes 4096 (thrown_text store v)
+error_text store v = within_bytes error_limit (thrown_text store v)

@@ -6,12 +6,12 @@ ghost use Rattle.mt_properties.specs.Changes.{Leaves};
 
 use crate::key::{is_length, no_such};
 use mt_ops::{ErrorKind, Refusal};
-use mt_tree::Buffer;
+use mt_tree::{Buffer, NUMBER_LIMIT};
 use mt_value::Value;
 use std::alloc::Global;
 
 /// The greatest number of items of an array, and of properties of an object: the greatest number of the language.
-pub const MOST: usize = 9_007_199_254_740_991;
+pub const MOST: usize = NUMBER_LIMIT as usize;
 
 fn item_at(items: &[Value], n: i64) -> Option<&Value>
     ensures { option_copied result ≡ spec.item_at items.now n }

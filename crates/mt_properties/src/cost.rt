@@ -6,9 +6,7 @@ ghost use Rattle.mt_properties.specs.Costs as spec;
 ghost use Rattle.mt_tree.specs.Text.{units_of};
 
 use mt_ops::type_name;
-use mt_syntax::{Binary, Unary};
-use mt_tree::Text;
-use mt_tree::decimal_units;
+use mt_tree::{Binary, Text, Unary, decimal_units};
 use mt_value::Value;
 
 /// How many units of UTF-16 of a text that is made, compared or cut cost one step.

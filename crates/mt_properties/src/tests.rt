@@ -1,8 +1,7 @@
 use super::*;
 use Given::{Array, Builtin, Node, Null, Num, Object, Str, True, Undefined};
 use mt_ops::Outcome;
-use mt_syntax::{Binary, Unary};
-use mt_tree::{Buffer, NoMemory, Text};
+use mt_tree::{Binary, Buffer, NoMemory, Text, Unary};
 use mt_value::{Cell, Native, Property, Store, Value};
 use std::alloc::Global;
 use std::test::Fail;

@@ -5,8 +5,7 @@ ghost use Rattle.mt_tree.specs.Text.{units_of};
 
 use crate::key::{is_length, no_such};
 use mt_ops::{ErrorKind, Refusal};
-use mt_tree::Text;
-use mt_tree::cut;
+use mt_tree::{Text, cut};
 use mt_value::Value;
 use std::alloc::Global;
 

@@ -8,12 +8,9 @@ ghost use Rattle.mt_properties.specs.ErrorText as spec;
 use crate::key::key_text;
 use crate::object::place_of;
 use mt_ops::{plain, push_text};
-use mt_tree::{NoMemory, Text};
+use mt_tree::{ERROR_LIMIT, NoMemory, Text};
 use mt_value::{Cell, Property, Store, Value};
 use std::alloc::Global;
-
-/// The greatest length of an error text, in bytes.
-const ROOM: usize = 4096;
 
 /// The text of a value that was thrown and not caught, cut to 4,096 bytes of UTF-8 at a character's boundary:
 /// `name: message` of an object whose properties `name` and `message` are texts, else what stands for the value in a text,
@@ -101,7 +98,7 @@ fn within_bytes(alloc: Global, text: &str) -> Result<String, NoMemory>
     ensures { IfOk result (λ made. chars (string_bytes made) ≡ spec.within_bytes 4096 (chars text.now)) }
 {
     let mut made = String::new(alloc);
-    let mut room = ROOM;
+    let mut room = ERROR_LIMIT;
     for c in text.chars() {
         if c.len_utf8() > room {
             break;

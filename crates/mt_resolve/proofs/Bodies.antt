@@ -6,7 +6,6 @@ use Rattle.mt_agreement.specs.Code.{AllStand, FunctionStands, ExprStandsTo, Stmt
 use Rattle.mt_agreement.specs.Scopes.{Scope, find_slot, with_name, with_names_once, parameter_entry, variable_entry, body_entry, own_given}
 use Rattle.mt_agreement.specs.States.{Numbered}
 use Rattle.mt_agreement.proofs.Entries.{lexicals_length}
-use Rattle.mt_evaluation.specs.Evaluation.{deepest}
 use Rattle.mt_evaluation.specs.Entering.{function_names}
 use Rattle.mt_evaluation.specs.Hoisting.{Lexical, functions, functions_of_kind, named_function, kind_of, lexicals, names_of, variables}
 use Rattle.mt_evaluation.specs.Names.{Surroundings}
@@ -24,6 +23,7 @@ use Rattle.mt_syntax.specs.declared.tree.ExprKind.TheOpen.{StmtKind-F}
 use Rattle.mt_syntax.specs.declared.tree.Function.{Function as SyntaxFunction, out-Function}
 use Rattle.mt_syntax.specs.declared.tree.Mark.{Mark}
 use Rattle.mt_syntax.specs.declared.tree.Stmt.{Stmt as SyntaxStmt}
+use Rattle.mt_tree.specs.Limits.{depth_limit}
 
 -- ---- an entry only grows
 
@@ -43,7 +43,7 @@ pub record Makes (around : Surroundings) (old : List Function) (depth : ℕ) (p 
   pub stmt : (scope : Scope) (size : ℕ) (t : SyntaxStmt) → Triple around old Always (p.stmt scope size t) (λ u units table. StmtStandsTo around units table depth scope size u t)
   pub function : (scope : Scope) (f : SyntaxFunction) → Triple around old Always (p.function scope f) (λ n units table. FunctionStands around units table scope n None f)
 
-module _ (around : Surroundings) (old : List Function) (first : ℕ) (numbers : first ≡ length old) (depth : ℕ) (low : depth ≤ deepest) (p : Parts) (below : Makes around old depth p) where
+module _ (around : Surroundings) (old : List Function) (first : ℕ) (numbers : first ≡ length old) (depth : ℕ) (low : depth ≤ depth_limit) (p : Parts) (below : Makes around old depth p) where
   -- ---- claims that stay
 
   pub stable_expr : (scope : Scope) (u : Expr) (e : SyntaxExpr) → Stable (λ units table. ExprStandsTo around units table depth scope u e)
@@ -98,9 +98,9 @@ module _ (around : Surroundings) (old : List Function) (first : ℕ) (numbers : 
   unfolding stmts
   stmts_made scope size ts = all_made around old (λ units table u t. StmtStandsTo around units table depth scope size u t) (stable_stmt scope size) (λ t. p.stmt scope size t) (below.stmt scope size) ts
 
-  pub deepest_made : (scope : Scope) (size : ℕ) (ts : List SyntaxStmt) → Triple around old Always (stmts around first p scope size ts) (λ us units table. AllStand (StmtStandsTo around units table deepest scope size) us ts)
+  pub deepest_made : (scope : Scope) (size : ℕ) (ts : List SyntaxStmt) → Triple around old Always (stmts around first p scope size ts) (λ us units table. AllStand (StmtStandsTo around units table depth_limit scope size) us ts)
   deepest_made scope size ts =
-      triple_post around old (stmts_made scope size ts) (λ us units table h. all_kept (stmt_kept around units table units table (same units table) depth deepest low scope size) us ts h)
+      triple_post around old (stmts_made scope size ts) (λ us units table h. all_kept (stmt_kept around units table units table (same units table) depth depth_limit low scope size) us ts h)
 
   pub body_made : (size : ℕ) (own : Option (List ℕ)) (parameters : List (List ℕ)) (outer : Scope) (ts : List SyntaxStmt)
       → Triple around old Always (body around first p size own parameters outer ts) (λ b units table. BodyStands around units table size own parameters outer b ts)

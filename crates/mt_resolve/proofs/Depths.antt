@@ -2,7 +2,7 @@
 use Rattle.std.proofs.Common.{◌≡◌, ℕ, zero, suc, ◌≤◌, max, List, [], ◌∷◌, map, Option, None, Some, sym, ap, ◌∙◌, subst, arith}
 use Rattle.std.proofs.lemmas.Bool.Decides.{nat_tests}
 use Rattle.std.specs.Prelude.{slice_get}
-use Rattle.mt_evaluation.specs.Evaluation.{deepest, dollars_of, expr_kind_of}
+use Rattle.mt_evaluation.specs.Evaluation.{dollars_of, expr_kind_of}
 use Rattle.mt_evaluation.specs.Hoisting.{kind_of}
 use Rattle.mt_syntax.specs.Depth.{depth_of, depth_of_kind, greatest, measuring, nothing}
 use Rattle.mt_syntax.specs.Fold.{Every, Steps, Tree, ExprKindLayer, ForStartLayer, MarkupChildLayer, MarkupValueLayer, StmtKindLayer, on_decl, on_expr, on_expr_kind, on_for_start, on_function, on_markup, on_markup_attribute, on_markup_child, on_markup_value, on_prop, on_stmt, on_stmt_kind}
@@ -24,6 +24,7 @@ use Rattle.mt_syntax.specs.declared.tree.MarkupValue.{MarkupValue, out-MarkupVal
 use Rattle.mt_syntax.specs.declared.tree.Prop.{Prop, out-Prop, roll-out-Prop}
 use Rattle.mt_syntax.specs.declared.tree.Stmt.{Stmt, out-Stmt, roll-out-Stmt}
 use Rattle.mt_syntax.specs.declared.tree.StmtKind.{StmtKind, out-StmtKind, roll-out-StmtKind}
+use Rattle.mt_tree.specs.Limits.{depth_limit}
 
 left_of : (m n d : ℕ) → max m n ≤ d → m ≤ d
 left_of m n d h = grind (arith, nat_tests)
@@ -218,7 +219,7 @@ deep_in tilde (Some t) = greatest (map (on_expr (measuring tilde nothing)) t.dol
 
 -- tildes that nest in one another at most so often; one that nests deeper passes the limit
 abbrev pub deep : List Tilde → ℕ → ℕ → ℕ
-deep tildes zero id = suc deepest
+deep tildes zero id = suc depth_limit
 deep tildes (suc n) id = deep_in (deep tildes n) (slice_get tildes id)
 
 pub record Fits (tildes : List Tilde) (n d : ℕ) : Type 0 where
@@ -229,17 +230,17 @@ in_dollars : (tildes : List Tilde) (n d : ℕ) → Fits tildes n d → (t : Opti
 in_dollars tildes n d below None h = tt
 in_dollars tildes n d below (Some t) h = all_within (on_expr (measuring (deep tildes n) nothing)) (within tildes d).expr d below.expr t.dollars h
 
-in_tilde_at : (tildes : List Tilde) (n d : ℕ) → d ≤ deepest → ((m : ℕ) → Fits tildes m d) → (id : ℕ) → deep tildes n id ≤ d → AllOf (within tildes d).expr (dollars_of (slice_get tildes id))
+in_tilde_at : (tildes : List Tilde) (n d : ℕ) → d ≤ depth_limit → ((m : ℕ) → Fits tildes m d) → (id : ℕ) → deep tildes n id ≤ d → AllOf (within tildes d).expr (dollars_of (slice_get tildes id))
 in_tilde_at tildes zero d low below id h = absurd (omega (arith, h, low))
 in_tilde_at tildes (suc n) d low below id h = in_dollars tildes n d (below n) (slice_get tildes id) h
 
-pub fits : (tildes : List Tilde) (d : ℕ) → d ≤ deepest → (n : ℕ) → Fits tildes n d
+pub fits : (tildes : List Tilde) (d : ℕ) → d ≤ depth_limit → (n : ℕ) → Fits tildes n d
 fits tildes zero low n = record {
   expr = λ e h. absurd (omega (arith, h, expr_depth tildes (deep tildes n) nothing e));
   stmt = λ t h. absurd (omega (arith, h, stmt_depth tildes (deep tildes n) nothing t));
 }
 fits tildes (suc d) low n =
-    let less : d ≤ deepest = omega (arith, low) in
+    let less : d ≤ depth_limit = omega (arith, low) in
     let below = fits tildes d less in
     record {
       expr = λ e h.
@@ -250,9 +251,9 @@ fits tildes (suc d) low n =
           in_statement tildes (deep tildes n) nothing d (within tildes d) (below n).expr (below n).stmt (in_tilde_at tildes n d less below) (kind_of t) at;
     }
 
-pub all_fit : (tildes : List Tilde) (n : ℕ) (ts : List Stmt) → greatest (map (on_stmt (measuring (deep tildes n) nothing)) ts) ≤ deepest → AreWithin tildes ts
+pub all_fit : (tildes : List Tilde) (n : ℕ) (ts : List Stmt) → greatest (map (on_stmt (measuring (deep tildes n) nothing)) ts) ≤ depth_limit → AreWithin tildes ts
 unfolding AreWithin
-all_fit tildes n ts h = all_within (on_stmt (measuring (deep tildes n) nothing)) (within tildes deepest).stmt deepest (fits tildes deepest (omega arith) n).stmt ts h
+all_fit tildes n ts h = all_within (on_stmt (measuring (deep tildes n) nothing)) (within tildes depth_limit).stmt depth_limit (fits tildes depth_limit (omega arith) n).stmt ts h
 
 -- code without tildes
 pub code_within : (body : List Stmt) → depth_of body ≤ 60 → AreWithin [] body

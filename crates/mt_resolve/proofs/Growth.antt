@@ -4,7 +4,7 @@ use Rattle.std.specs.Prelude.{slice_get}
 use Rattle.mt_agreement.specs.Code.{AllStand, OptionalStands, FunctionStands, PieceStandsForValue, AttributeStands, PieceStandsForChild, EntryStands, ExprStands, DeclStands, StartStands, block_scope, StmtStands, ExprStandsTo, StmtStandsTo, HoistedStands, BodyStands, CodeStands}
 use Rattle.mt_agreement.specs.Scopes.{Scope, body_entry, with_name}
 use Rattle.mt_agreement.specs.States.{Numbered}
-use Rattle.mt_evaluation.specs.Evaluation.{deepest, dollars_of, expr_kind_of}
+use Rattle.mt_evaluation.specs.Evaluation.{dollars_of, expr_kind_of}
 use Rattle.mt_evaluation.specs.Hoisting.{functions, kind_of, names_of}
 use Rattle.mt_evaluation.specs.Names.{Surroundings}
 use Rattle.mt_resolve.specs.Resolved.{Extends, ServiceStands}
@@ -35,6 +35,7 @@ use Rattle.mt_syntax.specs.declared.tree.MarkupChild.{out-MarkupChild}
 use Rattle.mt_syntax.specs.declared.tree.MarkupValue.{out-MarkupValue}
 use Rattle.mt_syntax.specs.declared.tree.Prop.{Prop, out-Prop}
 use Rattle.mt_syntax.specs.declared.tree.Stmt.{Stmt as SyntaxStmt}
+use Rattle.mt_tree.specs.Limits.{depth_limit}
 
 pub all_kept : {A B : Type 0} {P Q : A → B → Type 0} → ((a : A) (b : B) → P a b → Q a b) → (xs : List A) (ys : List B) → AllStand P xs ys → AllStand Q xs ys
 all_kept k [] [] h = tt
@@ -149,7 +150,7 @@ module _ (around : Surroundings) (units : List Function) (table : List Numbered)
     variables = h.variables;
     undeclared = h.undeclared;
     hoisted = all_kept (hoisted_kept (body_entry size own parameters ts ++ captured)) b.hoisted (functions ts) h.hoisted;
-    statements = all_kept (stmt_kept deepest deepest (omega arith) (body_entry size own parameters ts ++ captured) (size + length (body_entry size own parameters ts))) b.statements ts h.statements;
+    statements = all_kept (stmt_kept depth_limit depth_limit (omega arith) (body_entry size own parameters ts ++ captured) (size + length (body_entry size own parameters ts))) b.statements ts h.statements;
   }
 
   pub code_kept : (f : Function) (e : Numbered) → CodeStands around units table f e → CodeStands around units' table' f e

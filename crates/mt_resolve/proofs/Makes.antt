@@ -4,7 +4,7 @@ use Rattle.std.proofs.lemmas.List.{append-nil}
 use Rattle.mt_agreement.specs.Code.{AllStand, BodyStands, FileStands, ClientCodeStands, HoistedStands}
 use Rattle.mt_agreement.specs.Scopes.{Scope, body_entry, with_lexicals}
 use Rattle.mt_agreement.specs.States.{Numbered}
-use Rattle.mt_evaluation.specs.Evaluation.{deepest, expr_kind_of}
+use Rattle.mt_evaluation.specs.Evaluation.{expr_kind_of}
 use Rattle.mt_evaluation.specs.Hoisting.{functions, kind_of, lexicals, named_function, services, services_of_kind}
 use Rattle.mt_evaluation.specs.Names.{Surroundings}
 use Rattle.mt_evaluation.specs.Runs.{gives}
@@ -29,9 +29,10 @@ use Rattle.mt_syntax.specs.declared.tree.ExprKind.TheOpen.{StmtKind-F}
 use Rattle.mt_syntax.specs.declared.tree.Function.{Function as SyntaxFunction, out-Function}
 use Rattle.mt_syntax.specs.declared.tree.Mark.{Mark}
 use Rattle.mt_syntax.specs.declared.tree.Stmt.{Stmt as SyntaxStmt}
+use Rattle.mt_tree.specs.Limits.{depth_limit}
 
 module _ (around : Surroundings) (old : List Function) (first : ℕ) (numbers : first ≡ length old) where
-  pub level_makes : (depth : ℕ) → depth ≤ deepest → Makes around old depth (level around first depth)
+  pub level_makes : (depth : ℕ) → depth ≤ depth_limit → Makes around old depth (level around first depth)
   unfolding node act
   level_makes zero low = record {
     expr = λ scope e. record { run = λ new table good h. tt };
@@ -39,7 +40,7 @@ module _ (around : Surroundings) (old : List Function) (first : ℕ) (numbers : 
     function = λ scope f. record { run = λ new table good h. tt };
   }
   level_makes (suc depth) low =
-      let less : depth ≤ deepest = omega (arith, low) in
+      let less : depth ≤ depth_limit = omega (arith, low) in
       let below = level_makes depth less in
       record {
         expr = λ scope e. node_made around old first numbers depth less (level around first depth) below scope (expr_kind_of e);
@@ -47,9 +48,9 @@ module _ (around : Surroundings) (old : List Function) (first : ℕ) (numbers : 
         function = λ scope f. function_made around old first numbers depth less (level around first depth) below scope None f;
       }
 
-  whole : Makes around old deepest (at around first deepest)
+  whole : Makes around old depth_limit (at around first depth_limit)
   unfolding at
-  whole = level_makes deepest (omega arith)
+  whole = level_makes depth_limit (omega arith)
 
   -- ---- services
 
@@ -103,7 +104,7 @@ module _ (around : Surroundings) (old : List Function) (first : ℕ) (numbers : 
   pub file_made : (items : List SyntaxStmt) → Triple around old Always (file around first items) (FileIs items)
   unfolding file
   file_made items =
-      triple_bind around old (body_made around old first numbers deepest (omega arith) (at around first deepest) whole 0 None [] [] items) (λ b.
+      triple_bind around old (body_made around old first numbers depth_limit (omega arith) (at around first depth_limit) whole 0 None [] [] items) (λ b.
       triple_bind around old (frame around old (stable_body b items) (services_made (body_entry 0 None [] items) items)) (λ ss.
       triple_pure around old (record { globals = []; body = b }, ss) (λ units table h. (record { globals = refl; body = h.0 }, h.1))))
 
@@ -114,9 +115,9 @@ module _ (around : Surroundings) (old : List Function) (first : ℕ) (numbers : 
   unfolding client_code
   client_made items =
       let scope : Scope = with_lexicals 0 (lexicals items) [] in
-      triple_bind around old (hoisted_made around old first numbers deepest (omega arith) (at around first deepest) whole scope items) (λ hs.
+      triple_bind around old (hoisted_made around old first numbers depth_limit (omega arith) (at around first depth_limit) whole scope items) (λ hs.
       triple_bind around old (frame around old (stable_all around old (λ units table. HoistedStands around units table scope) (stable_hoisted scope) hs (functions items))
-      (deepest_made around old first numbers deepest (omega arith) (at around first deepest) whole scope (length (lexicals items)) items)) (λ us.
+      (deepest_made around old first numbers depth_limit (omega arith) (at around first depth_limit) whole scope (length (lexicals items)) items)) (λ us.
       triple_pure around old _ (λ units table h. record { globals = refl; variables = refl; undeclared = refl; hoisted = h.0; statements = h.1 })))
 
 -- ---- the results

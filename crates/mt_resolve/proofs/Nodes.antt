@@ -4,7 +4,7 @@ use Rattle.std.specs.Prelude.{slice_get}
 use Rattle.mt_agreement.specs.Code.{AllStand, ExprStandsTo, PieceStandsForValue, AttributeStands, PieceStandsForChild, EntryStands, ExprStands}
 use Rattle.mt_agreement.specs.Scopes.{Scope}
 use Rattle.mt_agreement.specs.States.{Numbered}
-use Rattle.mt_evaluation.specs.Evaluation.{deepest, dollars_of, own_name}
+use Rattle.mt_evaluation.specs.Evaluation.{dollars_of, own_name}
 use Rattle.mt_evaluation.specs.Names.{Surroundings}
 use Rattle.mt_evaluation.specs.Runs.{gives, and_then}
 use Rattle.mt_resolver.specs.Resolving.{Parts, exprs, entry, piece_of_value, attribute, piece_of_child, child, entries, attributes, children, node_at}
@@ -27,8 +27,9 @@ use Rattle.mt_syntax.specs.declared.tree.MarkupAttribute.{MarkupAttribute, out-M
 use Rattle.mt_syntax.specs.declared.tree.MarkupChild.{MarkupChild, out-MarkupChild}
 use Rattle.mt_syntax.specs.declared.tree.MarkupValue.{out-MarkupValue}
 use Rattle.mt_syntax.specs.declared.tree.Prop.{Prop, out-Prop}
+use Rattle.mt_tree.specs.Limits.{depth_limit}
 
-module _ (around : Surroundings) (old : List Function) (first : ℕ) (numbers : first ≡ length old) (depth : ℕ) (low : depth ≤ deepest) (p : Parts) (below : Makes around old depth p) where
+module _ (around : Surroundings) (old : List Function) (first : ℕ) (numbers : first ≡ length old) (depth : ℕ) (low : depth ≤ depth_limit) (p : Parts) (below : Makes around old depth p) where
   abbrev To : List Function → List Numbered → Scope → Expr → SyntaxExpr → Type 0
   To units table = ExprStandsTo around units table depth
 

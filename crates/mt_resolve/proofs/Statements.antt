@@ -3,7 +3,6 @@ use Rattle.std.proofs.Common.{◌≡◌, ℕ, suc, ◌+◌, ◌≤◌, List, [],
 use Rattle.mt_agreement.specs.Code.{AllStand, OptionalStands, ExprStandsTo, StmtStandsTo, DeclStands, StartStands, StmtStands}
 use Rattle.mt_agreement.specs.Scopes.{Scope, with_name, with_lexicals}
 use Rattle.mt_agreement.specs.States.{Numbered}
-use Rattle.mt_evaluation.specs.Evaluation.{deepest}
 use Rattle.mt_evaluation.specs.Hoisting.{lexicals}
 use Rattle.mt_evaluation.specs.Names.{Surroundings}
 use Rattle.mt_evaluation.specs.Runs.{gives}
@@ -26,8 +25,9 @@ use Rattle.mt_syntax.specs.declared.tree.Expr.{Expr as SyntaxExpr}
 use Rattle.mt_syntax.specs.declared.tree.ExprKind.TheOpen.{ForStart-F, StmtKind-F}
 use Rattle.mt_syntax.specs.declared.tree.ForStart.{ForStart as SyntaxStart, out-ForStart}
 use Rattle.mt_syntax.specs.declared.tree.Stmt.{Stmt as SyntaxStmt}
+use Rattle.mt_tree.specs.Limits.{depth_limit}
 
-module _ (around : Surroundings) (old : List Function) (first : ℕ) (numbers : first ≡ length old) (depth : ℕ) (low : depth ≤ deepest) (p : Parts) (below : Makes around old depth p) where
+module _ (around : Surroundings) (old : List Function) (first : ℕ) (numbers : first ≡ length old) (depth : ℕ) (low : depth ≤ depth_limit) (p : Parts) (below : Makes around old depth p) where
   abbrev To : List Function → List Numbered → Scope → Expr → SyntaxExpr → Type 0
   To units table = ExprStandsTo around units table depth
 

@@ -2,7 +2,7 @@
 use Rattle.std.proofs.Common.{◌≡◌, ◌≢◌, ℕ, zero, suc, ◌++◌, List, [], ◌∷◌, map, Option, None, Some, refl, sym, subst}
 use Rattle.std.specs.Prelude.{slice_get}
 use Rattle.mt_agreement.specs.Scopes.{Scope}
-use Rattle.mt_evaluation.specs.Evaluation.{deepest, dollars_of, expr_kind_of, own_name}
+use Rattle.mt_evaluation.specs.Evaluation.{dollars_of, expr_kind_of, own_name}
 use Rattle.mt_evaluation.specs.Hoisting.{kind_of}
 use Rattle.mt_evaluation.specs.Names.{Surroundings}
 use Rattle.mt_evaluation.specs.Runs.{Ran, gives, leaves, and_then, all_behind, all}
@@ -27,6 +27,7 @@ use Rattle.mt_syntax.specs.declared.tree.MarkupAttribute.{MarkupAttribute}
 use Rattle.mt_syntax.specs.declared.tree.MarkupChild.{MarkupChild, out-MarkupChild}
 use Rattle.mt_syntax.specs.declared.tree.Prop.{Prop}
 use Rattle.mt_syntax.specs.declared.tree.Stmt.{Stmt}
+use Rattle.mt_tree.specs.Limits.{depth_limit}
 
 abbrev IsGiven : {A : Type 0} → Ran (List Function) A → Type 0
 IsGiven (gives a s) = Unit {0}
@@ -246,36 +247,36 @@ module _ (around : Surroundings) (first : ℕ) where
         declares = λ t h. declares_at around.tildes (within around.tildes depth) (kind_of t) h;
       }
 
-  whole : TotalParts (at around first deepest) (within around.tildes deepest) (FunctionIs around.tildes deepest)
+  whole : TotalParts (at around first depth_limit) (within around.tildes depth_limit) (FunctionIs around.tildes depth_limit)
   unfolding at
-  whole = level_total deepest
+  whole = level_total depth_limit
 
-  service_named_total : (scope : Scope) (done : List Service) (name : Option Mark) (f : SyntaxFunction) → FunctionIs around.tildes deepest f → Total (service_named around first scope done name f)
+  service_named_total : (scope : Scope) (done : List Service) (name : Option Mark) (f : SyntaxFunction) → FunctionIs around.tildes depth_limit f → Total (service_named around first scope done name f)
   service_named_total scope done None f h = total_pure done
   service_named_total scope done (Some m) f h = total_bind (whole.function scope f h) (λ n. total_pure _)
 
-  service_one_total : (scope : Scope) (done : List Service) (t : StmtKindLayer Tree) → DeclaredIs (FunctionIs around.tildes deepest) t → Total (service_one around first scope done t)
+  service_one_total : (scope : Scope) (done : List Service) (t : StmtKindLayer Tree) → DeclaredIs (FunctionIs around.tildes depth_limit) t → Total (service_one around first scope done t)
   service_one_total scope done (StmtKind-F.Service f) h = service_named_total scope done (out-Function f).name f h
   service_one_total scope done _ h = total_pure done
 
-  services_from_total : (scope : Scope) (done : List Service) (ts : List Stmt) → AllOf (within around.tildes deepest).stmt ts → Total (services_from around first scope done ts)
+  services_from_total : (scope : Scope) (done : List Service) (ts : List Stmt) → AllOf (within around.tildes depth_limit).stmt ts → Total (services_from around first scope done ts)
   services_from_total scope done [] h = total_pure done
   services_from_total scope done (t ∷ ts) h = total_bind (service_one_total scope done (kind_of t) (whole.declares t h.0)) (λ ss. services_from_total scope ss ts h.1)
 
-  services_total : (scope : Scope) (items : List Stmt) → AllOf (within around.tildes deepest).stmt items → Total (all_services around first scope items)
+  services_total : (scope : Scope) (items : List Stmt) → AllOf (within around.tildes depth_limit).stmt items → Total (all_services around first scope items)
   unfolding all_services
   services_total scope items h = services_from_total scope [] items h
 
   file_total : (items : List Stmt) → AreWithin around.tildes items → Total (file around first items)
   unfolding file AreWithin
   file_total items h =
-      total_bind (body_total around first (at around first deepest) (within around.tildes deepest) (FunctionIs around.tildes deepest) whole _ _ _ _ items h) (λ b. total_bind (services_total _ items h) (λ ss. total_pure _))
+      total_bind (body_total around first (at around first depth_limit) (within around.tildes depth_limit) (FunctionIs around.tildes depth_limit) whole _ _ _ _ items h) (λ b. total_bind (services_total _ items h) (λ ss. total_pure _))
 
   client_total : (items : List Stmt) → AreWithin around.tildes items → Total (client_code around first items)
   unfolding client_code AreWithin
   client_total items h =
-      total_bind (hoisted_total around first (at around first deepest) (within around.tildes deepest) (FunctionIs around.tildes deepest) whole _ items h) (λ hs.
-      total_bind (stmts_total around first (at around first deepest) (within around.tildes deepest) (FunctionIs around.tildes deepest) whole _ _ items h) (λ us. total_pure _))
+      total_bind (hoisted_total around first (at around first depth_limit) (within around.tildes depth_limit) (FunctionIs around.tildes depth_limit) whole _ items h) (λ hs.
+      total_bind (stmts_total around first (at around first depth_limit) (within around.tildes depth_limit) (FunctionIs around.tildes depth_limit) whole _ _ items h) (λ us. total_pure _))
 
   -- so nothing else than a result comes
   file_given : (items : List Stmt) (fs fs' : List Function) (x : Exit) → AreWithin around.tildes items → file around first items fs ≡ leaves x fs' → ⊥

@@ -2,7 +2,6 @@
 use Rattle.std.specs.Prelude.{ℕ, List, [], ◌∷◌, ◌++◌, length, map, Option, None, Some}
 use Rattle.mt_agreement.specs.Scopes.{Scope, with_lexicals, body_entry}
 use Rattle.mt_bindings.specs.Bound.{captured}
-use Rattle.mt_evaluation.specs.Evaluation.{deepest}
 use Rattle.mt_evaluation.specs.Hoisting.{kind_of, lexicals, variables}
 use Rattle.mt_evaluation.specs.Names.{Surroundings}
 use Rattle.mt_evaluation.specs.Runs.{◌>>=◌, pure}
@@ -14,12 +13,13 @@ use Rattle.mt_syntax.specs.declared.tree.ExprKind.TheOpen.{StmtKind-F}
 use Rattle.mt_syntax.specs.declared.tree.Function.{Function as SyntaxFunction, out-Function}
 use Rattle.mt_syntax.specs.declared.tree.Mark.{Mark}
 use Rattle.mt_syntax.specs.declared.tree.Stmt.{Stmt as SyntaxStmt}
+use Rattle.mt_tree.specs.Limits.{depth_limit}
 
 module _ (around : Surroundings) (first : ℕ) where
   abbrev pub service_named : Scope → List Service → Option Mark → SyntaxFunction → M (List Service)
   service_named scope done None f = pure done
   service_named scope done (Some m) f =
-      (at around first deepest).function scope f >>= (λ n. pure (done ++ record { name = m.name; function = n; captured = map (λ s. s.slot) (captured around scope None f) } ∷ []))
+      (at around first depth_limit).function scope f >>= (λ n. pure (done ++ record { name = m.name; function = n; captured = map (λ s. s.slot) (captured around scope None f) } ∷ []))
 
   abbrev pub service_one : Scope → List Service → StmtKindLayer Tree → M (List Service)
   service_one scope done (StmtKind-F.Service f) = service_named scope done (out-Function f).name f
@@ -36,12 +36,12 @@ module _ (around : Surroundings) (first : ℕ) where
   -- the top of the file, with its services
   unfoldable pub file : List SyntaxStmt → M (Unit' × List Service)
   file items = do
-    b ← body around first (at around first deepest) 0 None [] [] items
+    b ← body around first (at around first depth_limit) 0 None [] [] items
     ss ← all_services (body_entry 0 None [] items) items
     pure (record { globals = []; body = b }, ss)
 
   unfoldable pub client_code : List SyntaxStmt → M Unit'
   client_code items = do
-    hs ← all_hoisted around first (at around first deepest) (with_lexicals 0 (lexicals items) []) items
-    us ← stmts around first (at around first deepest) (with_lexicals 0 (lexicals items) []) (length (lexicals items)) items
+    hs ← all_hoisted around first (at around first depth_limit) (with_lexicals 0 (lexicals items) []) items
+    us ← stmts around first (at around first depth_limit) (with_lexicals 0 (lexicals items) []) (length (lexicals items)) items
     pure (record { globals = variables items; body = record { variables = 0; undeclared = length (lexicals items); hoisted = hs; statements = us } })

@@ -1,6 +1,6 @@
 -- Syntax that is at most so deep, where the dollars of a tilde stand in its place.
 use Rattle.std.specs.Prelude.{ℕ, zero, suc, List, [], ◌∷◌, Option, None, Some, slice_get}
-use Rattle.mt_evaluation.specs.Evaluation.{deepest, dollars_of, expr_kind_of}
+use Rattle.mt_evaluation.specs.Evaluation.{dollars_of, expr_kind_of}
 use Rattle.mt_evaluation.specs.Hoisting.{kind_of}
 use Rattle.mt_syntax.specs.Fold.{Tree, ExprKindLayer, ForStartLayer, MarkupChildLayer, MarkupValueLayer, StmtKindLayer}
 use Rattle.mt_syntax.specs.declared.program.Tilde.{Tilde}
@@ -15,6 +15,7 @@ use Rattle.mt_syntax.specs.declared.tree.MarkupChild.{MarkupChild, out-MarkupChi
 use Rattle.mt_syntax.specs.declared.tree.MarkupValue.{out-MarkupValue}
 use Rattle.mt_syntax.specs.declared.tree.Prop.{Prop, out-Prop}
 use Rattle.mt_syntax.specs.declared.tree.Stmt.{Stmt}
+use Rattle.mt_tree.specs.Limits.{depth_limit}
 
 abbrev pub AllOf : {A : Type 0} → (A → Type 0) → List A → Type 0
 AllOf P [] = Unit {0}
@@ -100,4 +101,4 @@ within tildes (suc depth) = record {
 
 -- each statement is at most so deep as the evaluation goes
 unfoldable pub AreWithin : List Tilde → List Stmt → Type 0
-AreWithin tildes ts = AllOf (within tildes deepest).stmt ts
+AreWithin tildes ts = AllOf (within tildes depth_limit).stmt ts

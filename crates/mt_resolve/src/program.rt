@@ -10,6 +10,7 @@ ghost use Rattle.mt_resolver.specs.Resolving.{EvalsInto};
 ghost use Rattle.mt_resolve.specs.Within.{AreWithin};
 ghost use Rattle.mt_syntax.specs.Depth.{depth_of};
 ghost use Rattle.mt_syntax.specs.declared.tree.Function.{out-Function};
+ghost use Rattle.mt_tree.specs.Limits.{depth_limit};
 
 use crate::service::Service;
 use crate::units::{UnitId, Units};
@@ -20,11 +21,11 @@ use mt_resolver::{Resolver, all_hoisted, body, declared_function, stmts};
 use mt_slots::{Body, Function, Unit};
 use mt_syntax as syntax;
 use mt_syntax::{Program, Stmt, StmtKind};
-use mt_tree::{NoMemory, Row, push};
+use mt_tree::{DEPTH_LIMIT, NoMemory, Row, push};
 use std::alloc::Global;
 
 // How deep syntax may be.
-const DEEPEST: usize = 60;
+const DEEPEST: usize = DEPTH_LIMIT as usize;
 
 /// The units of a file: code on slots that stands for the program, with a number for each function, and the services. The program is at
 /// most 60 deep, where the expressions of a tilde's dollars stand in the place of the tilde.
@@ -52,7 +53,7 @@ pub fn resolve_client(
     code: &Row<Stmt>,
     units: &mut Units,
 ) -> Result<UnitId, NoMemory>
-    requires { depth_of code.now ≤ 60 }
+    requires { depth_of code.now ≤ depth_limit }
     ensures stands { (table : List Numbered) → AreNumbered around_client units.old.functions table → IfOk result (λ id. ClientStands code.now units.old units.new table id) }
     ensures err { OnErr result (units.new ≡ units.old) }
 {

@@ -18,10 +18,11 @@ use Rattle.mt_syntax.specs.declared.tree.ExprKind.{out-ExprKind, roll-out-ExprKi
 use Rattle.mt_syntax.specs.declared.tree.Stmt.{Stmt, out-Stmt, roll-out-Stmt}
 use Rattle.mt_syntax.specs.declared.tree.StmtKind.{out-StmtKind, roll-out-StmtKind}
 use Rattle.mt_resolve.specs.Within.{AllOf, IfThere, ExprIsWithin, StmtIsWithin, within, AreWithin}
-use Rattle.mt_evaluation.specs.Evaluation.{deepest, dollars_of, expr_kind_of}
+use Rattle.mt_evaluation.specs.Evaluation.{dollars_of, expr_kind_of}
 use Rattle.mt_evaluation.specs.Hoisting.{kind_of}
 use Rattle.mt_resolve_laws.proofs.Dollars.{by_number, fewer_in, lower_in}
 use Rattle.mt_resolve_laws.proofs.Nodes.{Few, Fits, each, expr_kind_fits, lists, measures, moved, stmt_kind_fits}
+use Rattle.mt_tree.specs.Limits.{depth_limit}
 
 -- ---- each list of nodes, to any depth
 
@@ -117,10 +118,10 @@ module _ (tildes : List Tilde) where
     shallow zero = record { expr = λ n e h. absurd (no_expr n e h.low); stmt = λ n t h. absurd (no_stmt n t h.low) }
     shallow (suc k) = record { expr = λ n e h. expr_deeper k n (shallow k) e h; stmt = λ n t h. stmt_deeper k n (shallow k) t h }
 
-pub shallow_program : (p : Program) → IsDerived p → depth_of_program p ≤ deepest → AreWithin p.tildes p.items
+pub shallow_program : (p : Program) → IsDerived p → depth_of_program p ≤ depth_limit → AreWithin p.tildes p.items
 unfolding AreWithin
 shallow_program p derived low =
     let n = suc (length p.tildes) in
     let count : length (tildes_of p) ≡ length p.tildes = ap length derived.numbers ∙ length-range_with_len 0 (length p.tildes) in
-    each n deepest (on_stmt (lists p.tildes (ids_of p.tildes n) (depths_of p.tildes n))) (on_stmt (measures p.tildes (ids_of p.tildes n) (depths_of p.tildes n))) (within p.tildes deepest).stmt
-    ((shallow p.tildes derived.tildes deepest).stmt n) p.items (record { few = omega (arith, count); low = low })
+    each n depth_limit (on_stmt (lists p.tildes (ids_of p.tildes n) (depths_of p.tildes n))) (on_stmt (measures p.tildes (ids_of p.tildes n) (depths_of p.tildes n))) (within p.tildes depth_limit).stmt
+    ((shallow p.tildes derived.tildes depth_limit).stmt n) p.items (record { few = omega (arith, count); low = low })

@@ -17,7 +17,7 @@ use Rattle.mt_syntax.specs.declared.tree.ForStart.{ForStart, roll-ForStart}
 use Rattle.mt_syntax.specs.declared.tree.Mark.{Mark}
 use Rattle.mt_syntax.specs.declared.tree.Stmt.{Stmt}
 use Rattle.mt_syntax.specs.declared.tree.StmtKind.{StmtKind, roll-StmtKind}
-use Rattle.mt_syntax.specs.declared.tree.VarKind.TheVariants as word
+use Rattle.mt_tree.specs.declared.operators.VarKind.TheVariants as word
 use Rattle.mt_syntax.specs.declared.tree.ExprKind.TheOpen.{ForStart-F, StmtKind-F}
 use Rattle.mt_syntax_laws.proofs.Related.{at_for_start, at_stmt_kind}
 use Rattle.mt_syntax.specs.Texts.{measuring_texts}

@@ -17,8 +17,8 @@ use Rattle.mt_syntax.specs.declared.tree.Function.{Function, out-Function, roll-
 use Rattle.mt_syntax.specs.declared.tree.Mark.{Mark}
 use Rattle.mt_syntax.specs.declared.tree.Stmt.{Stmt}
 use Rattle.mt_syntax.specs.declared.tree.StmtKind.{StmtKind, roll-StmtKind}
-use Rattle.mt_syntax.specs.declared.tree.VarKind.{VarKind}
-use Rattle.mt_syntax.specs.declared.tree.VarKind.TheVariants as word
+use Rattle.mt_tree.specs.declared.operators.VarKind.{VarKind}
+use Rattle.mt_tree.specs.declared.operators.VarKind.TheVariants as word
 use Rattle.mt_syntax.specs.declared.tree.ExprKind.TheOpen.{StmtKind-F}
 use Rattle.mt_syntax.specs.Substitution.{nowhere}
 use Rattle.mt_syntax_laws.proofs.Related.{at_decl, at_function, at_stmt, at_stmt_kind, on}

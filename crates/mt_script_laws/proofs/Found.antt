@@ -14,7 +14,7 @@ use Rattle.mt_syntax.specs.Sort as sort
 use Rattle.mt_syntax.specs.declared.tree.Expr.{Expr}
 use Rattle.mt_syntax.specs.declared.tree.ExprKind.{ExprKind}
 use Rattle.mt_syntax.specs.declared.tree.Mark.{Mark}
-use Rattle.mt_syntax.specs.declared.tree.StepKind.{StepKind}
+use Rattle.mt_tree.specs.declared.operators.StepKind.{StepKind}
 use Rattle.mt_syntax.specs.declared.tree.Stmt.{Stmt}
 use Rattle.mt_syntax.specs.declared.tree.StmtKind.{StmtKind}
 use Rattle.mt_syntax.specs.declared.tree.ExprKind.TheOpen.{ExprKind-F}

@@ -7,14 +7,14 @@ use Rattle.mt_syntax.specs.Data.{is_digit}
 use Rattle.mt_syntax.specs.Fold.{on_expr}
 use Rattle.mt_syntax.specs.Shape.{all_fit, is_assignment, shaping}
 use Rattle.mt_syntax.specs.Sort as sort
-use Rattle.mt_syntax.specs.declared.tree.Binary.{Binary}
+use Rattle.mt_tree.specs.declared.operators.Binary.{Binary}
 use Rattle.mt_syntax.specs.declared.tree.Expr.{Expr}
 use Rattle.mt_syntax.specs.declared.tree.ExprKind.{ExprKind}
-use Rattle.mt_syntax.specs.declared.tree.StepKind.{StepKind}
-use Rattle.mt_syntax.specs.declared.tree.StepKind.TheVariants as steps
+use Rattle.mt_tree.specs.declared.operators.StepKind.{StepKind}
+use Rattle.mt_tree.specs.declared.operators.StepKind.TheVariants as steps
 use Rattle.mt_syntax.specs.declared.tree.Stmt.{Stmt}
-use Rattle.mt_syntax.specs.declared.tree.Unary.{Unary}
-use Rattle.mt_syntax.specs.declared.tree.Unary.TheVariants as unary
+use Rattle.mt_tree.specs.declared.operators.Unary.{Unary}
+use Rattle.mt_tree.specs.declared.operators.Unary.TheVariants as unary
 use Rattle.mt_syntax.specs.declared.tree.ExprKind.TheOpen.{ExprKind-F}
 use Rattle.mt_json.specs.Reading.{◌>>=◌, Parse, first_at}
 use Rattle.mt_script_words.proofs.Found.{Assigns, Finds, IsShortText, finds_if, finds_nothing, operators_found, texts_found, then_finds}

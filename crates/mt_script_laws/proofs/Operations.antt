@@ -8,14 +8,14 @@ use Rattle.mt_syntax.specs.Fold.{Tree, on_expr}
 use Rattle.mt_syntax.specs.Shape.{is_assignment, shaping}
 use Rattle.mt_syntax.specs.Sort.{Sort}
 use Rattle.mt_syntax.specs.Sort as sort
-use Rattle.mt_syntax.specs.declared.tree.Binary.{Binary}
+use Rattle.mt_tree.specs.declared.operators.Binary.{Binary}
 use Rattle.mt_syntax.specs.declared.tree.Expr.{Expr}
 use Rattle.mt_syntax.specs.declared.tree.ExprKind.{ExprKind, roll-ExprKind}
 use Rattle.mt_syntax.specs.declared.tree.Function.{Function}
-use Rattle.mt_syntax.specs.declared.tree.StepKind.{StepKind}
-use Rattle.mt_syntax.specs.declared.tree.StepKind.TheVariants as steps
-use Rattle.mt_syntax.specs.declared.tree.Unary.{Unary}
-use Rattle.mt_syntax.specs.declared.tree.Unary.TheVariants as unary
+use Rattle.mt_tree.specs.declared.operators.StepKind.{StepKind}
+use Rattle.mt_tree.specs.declared.operators.StepKind.TheVariants as steps
+use Rattle.mt_tree.specs.declared.operators.Unary.{Unary}
+use Rattle.mt_tree.specs.declared.operators.Unary.TheVariants as unary
 use Rattle.mt_syntax.specs.declared.tree.ExprKind.TheOpen.{ExprKind-F}
 use Rattle.mt_syntax_laws.proofs.Related.{at_expr_kind, on}
 use Rattle.mt_script_words.specs.Keywords.{leader_of}

@@ -17,11 +17,11 @@ use mt_script_tree::read_statements;
 use mt_script_words::CodeRefusal;
 use mt_script_write::code_text;
 use mt_syntax::Code;
-use mt_tree::{Data, Row};
+use mt_tree::{DEPTH_LIMIT, Data, Row};
 use std::alloc::Global;
 
 // How deep code nests.
-const DEPTH: u32 = 60;
+const DEPTH: u32 = DEPTH_LIMIT as u32;
 
 // Whether data are within the limits as one list: the reader of lists of data knows.
 fn are_within_limits(alloc: Global, values: &Row<Data>) -> Result<bool, CodeRefusal>

@@ -11,7 +11,8 @@ use mt_json::{is_digit, skip};
 use mt_script_words::{
     CodeRefusal, Leader, after_word, datum, find_leader, first, name, number, string, text, word,
 };
-use mt_syntax::{Expr, ExprKind, Prop, StepKind, Unary};
+use mt_syntax::{Expr, ExprKind, Prop};
+use mt_tree::{StepKind, Unary};
 use std::alloc::Global;
 
 fn value(alloc: Global, bytes: &[u8]) -> Result<(ExprKind, &[u8]), CodeRefusal>

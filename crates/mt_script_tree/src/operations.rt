@@ -6,7 +6,8 @@ ghost use Rattle.mt_script_tree.specs.Reading.{expr_at};
 use crate::expressions::expr;
 use mt_json::skip;
 use mt_script_words::{CodeRefusal, Operator, first, read_operator};
-use mt_syntax::{Binary, Expr, ExprKind, StepKind, Unary};
+use mt_syntax::{Expr, ExprKind};
+use mt_tree::{Binary, StepKind, Unary};
 use std::alloc::Global;
 
 fn is_target(expr: &Expr) -> bool

@@ -10,8 +10,8 @@ use crate::lists::{decls, stmts};
 use crate::made::{block_of, stmt_of};
 use mt_json::skip;
 use mt_script_words::{CodeRefusal, Keyword, after_word, find_keyword, first, is_word, mark, word};
-use mt_syntax::{Decl, Expr, ForStart, Function, Stmt, StmtKind, VarKind};
-use mt_tree::{Boxed, Row};
+use mt_syntax::{Decl, Expr, ForStart, Function, Stmt, StmtKind};
+use mt_tree::{Boxed, Row, VarKind};
 use std::alloc::Global;
 
 // ---- declarations

@@ -8,8 +8,8 @@ use Rattle.mt_tree.specs.declared.data.Data.{Data}
 use Rattle.mt_syntax.specs.DataText.{data_text}
 use Rattle.mt_syntax.specs.Names.{is_name}
 use Rattle.mt_syntax.specs.Shape.{is_assignment, is_number}
-use Rattle.mt_syntax.specs.declared.tree.Binary.{Binary}
-use Rattle.mt_syntax.specs.declared.tree.Binary.TheVariants as binary
+use Rattle.mt_tree.specs.declared.operators.Binary.{Binary}
+use Rattle.mt_tree.specs.declared.operators.Binary.TheVariants as binary
 use Rattle.mt_json.specs.Reading.{◌>>=◌, first_at, value}
 use Rattle.mt_script_words.specs.Literals.{string_at, text_at}
 use Rattle.mt_script_words.specs.Operators.{arithmetic, comparison, equals, operator_at, operator_from}

@@ -10,8 +10,9 @@ use Rattle.std.proofs.lemmas.Str.{chars-IsAscii, chars-nil, chars_past_char, enc
 use lib.Utf8.{encode, encodes}
 use Rattle.unicode_ident.specs.Ident.{is_xid_continue, is_xid_start}
 use Rattle.unicode_ident.proofs.IdentLemmas.{is_xid_continue-ascii, is_xid_start-is_xid_continue}
-use Rattle.mt_syntax.specs.Names.{is_name, is_reserved, is_word, reserved_words, starts_name}
+use Rattle.mt_syntax.specs.Names.{is_name, is_word, starts_name}
 use Rattle.mt_script_words.specs.Words.{begins_name}
+use Rattle.mt_tree.specs.Words.{is_reserved, reserved_words}
 
 abbrev pub are_ascii : List ℕ → Bool
 are_ascii = list_all (λ v. nat_lt v 128)

@@ -3,8 +3,8 @@ use Rattle.std.proofs.Common.{◌≡◌, ℕ, true, List, ◌∷◌, ◌++◌, O
 use Rattle.std.specs.Prelude.{codes}
 use Rattle.mt_syntax.specs.CodeText.{assign_text, binary_text}
 use Rattle.mt_syntax.specs.Shape.{is_assignment}
-use Rattle.mt_syntax.specs.declared.tree.Binary.{Binary}
-use Rattle.mt_syntax.specs.declared.tree.Binary.TheVariants as binary
+use Rattle.mt_tree.specs.declared.operators.Binary.{Binary}
+use Rattle.mt_tree.specs.declared.operators.Binary.TheVariants as binary
 use Rattle.mt_script_words.specs.Operators.{operator_at}
 use Rattle.mt_script_words.specs.declared.operators.Operator.TheVariants as operator
 

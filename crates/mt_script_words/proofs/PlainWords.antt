@@ -6,13 +6,14 @@ use Rattle.std.specs.Str.{IsUtf8, bytes_eq}
 use lib.Utf8.{encodes}
 use Rattle.std.proofs.lemmas.Bool.{ne_eqb, not-true}
 use Rattle.std.proofs.lemmas.Str.{chars-encodes}
-use Rattle.mt_syntax.specs.Names.{is_name, is_reserved, reserved_words}
+use Rattle.mt_syntax.specs.Names.{is_name}
 use Rattle.mt_script_words.specs.Keywords.{keyword_of, leader_of}
 use Rattle.mt_script_words.specs.declared.keywords.Keyword.TheVariants as keyword
 use Rattle.mt_script_words.specs.declared.keywords.Leader.{Leader}
 use Rattle.mt_script_words.specs.declared.keywords.Leader.TheVariants as leader
 use Rattle.mt_script_words.proofs.NameBytes.{known_word}
 use Rattle.mt_script_words.proofs.WordTexts.{named}
+use Rattle.mt_tree.specs.Words.{is_reserved, reserved_words}
 
 or_false : (a b : Bool) → (a || b) ≡ false → (a ≡ false) × (b ≡ false)
 or_false true b h = absurd cc

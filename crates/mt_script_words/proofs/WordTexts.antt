@@ -14,10 +14,11 @@ use Rattle.std.proofs.Math.Seq.{drop-append_seam, take-append_seam}
 use Rattle.unicode_ident.specs.Ident.{is_xid_continue, is_xid_start}
 use Rattle.unicode_ident.proofs.IdentLemmas.{is_xid_continue-ascii, is_xid_start-ascii}
 use Rattle.mt_syntax.specs.Data.{is_digit}
-use Rattle.mt_syntax.specs.Names.{is_name, is_reserved, is_word, starts_name}
+use Rattle.mt_syntax.specs.Names.{is_name, is_word, starts_name}
 use Rattle.mt_json.proofs.Again.{Begins}
 use Rattle.mt_script_words.specs.Words.{after_word, is_short, is_word_byte, mark_at, name_of, unplaced_mark, word_length, word_of}
 use Rattle.mt_script_words.proofs.NameBytes.{starts_continues}
+use Rattle.mt_tree.specs.Words.{is_reserved}
 
 -- no byte of a word comes first
 abbrev pub ends_word : List ℕ → Bool

@@ -1,7 +1,7 @@
 -- Which statement or expression a word begins.
 use Rattle.std.specs.Prelude.{ℕ, if◌then◌else◌, List, true, false, codes}
 use Rattle.std.specs.Str.{bytes_eq}
-use Rattle.mt_syntax.specs.declared.tree.VarKind.TheVariants as word
+use Rattle.mt_tree.specs.declared.operators.VarKind.TheVariants as word
 use Rattle.mt_script_words.specs.declared.keywords.Keyword.{Keyword}
 use Rattle.mt_script_words.specs.declared.keywords.Keyword.TheVariants as keyword
 use Rattle.mt_script_words.specs.declared.keywords.Leader.{Leader}

@@ -1,7 +1,7 @@
 -- The operators between two operands, with the space behind each, by their first two bytes.
 use Rattle.std.specs.Prelude.{ℕ, ◌==◌, if◌then◌else◌, drop, None, Some}
-use Rattle.mt_syntax.specs.declared.tree.Binary.{Binary}
-use Rattle.mt_syntax.specs.declared.tree.Binary.TheVariants as binary
+use Rattle.mt_tree.specs.declared.operators.Binary.{Binary}
+use Rattle.mt_tree.specs.declared.operators.Binary.TheVariants as binary
 use Rattle.mt_json.specs.Reading.{◌>>=◌, Parse, first_at}
 use Rattle.mt_script_words.specs.declared.operators.Operator.{Operator}
 use Rattle.mt_script_words.specs.declared.operators.Operator.TheVariants as operator

@@ -9,10 +9,11 @@ use Rattle.mt_syntax.specs.DataLimits.{bytes_of_data, depth_of_data, nodes_of_da
 use Rattle.mt_syntax.specs.DataText.{data_text}
 use Rattle.mt_syntax.specs.Shape.{is_number}
 use Rattle.mt_json.specs.Reading.{◌>>=◌, value}
+use Rattle.mt_tree.specs.Limits.{data_depth_limit, data_node_limit, data_byte_limit}
 
 -- whether the datum is within the limits by itself
 abbrev pub is_within : Data → Bool
-is_within d = is_data d && (nat_le (depth_of_data d) 40 && (nat_le (nodes_of_data d) 20000 && nat_le (bytes_of_data d) 262144))
+is_within d = is_data d && (nat_le (depth_of_data d) data_depth_limit && (nat_le (nodes_of_data d) data_node_limit && nat_le (bytes_of_data d) data_byte_limit))
 
 abbrev pub spelled_by : List ℕ → Data → Option Data
 spelled_by bytes d = if is_within d && bytes_eq (data_text d) bytes then Some d else None

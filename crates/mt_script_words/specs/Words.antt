@@ -7,6 +7,7 @@ use Rattle.mt_syntax.specs.Names.{is_name, starts_name}
 use Rattle.mt_syntax.specs.Substitution.{nowhere}
 use Rattle.mt_syntax.specs.declared.tree.Mark.{Mark}
 use Rattle.mt_json.specs.Reading.{◌>>=◌, Parse}
+use Rattle.mt_tree.specs.Limits.{text_limit}
 
 -- a letter, a digit, `_` or a byte of a character beyond ASCII
 abbrev pub is_word_byte : ℕ → Bool
@@ -25,7 +26,7 @@ after_word bytes = drop (word_length bytes) bytes
 
 -- whether a text is not too long for code
 abbrev pub is_short : List ℕ → Bool
-is_short cs = nat_le (units_of cs) 1048576
+is_short cs = nat_le (units_of cs) text_limit
 
 abbrev pub short : List ℕ → Option (List ℕ)
 short cs = if is_short cs then Some cs else None

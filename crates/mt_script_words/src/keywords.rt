@@ -2,7 +2,7 @@ ghost use Rattle.std.specs.Prelude.{◌≡◌};
 ghost use Rattle.std.specs.Str.{bytes_eq};
 ghost use Rattle.mt_script_words.specs.Keywords.{keyword_of, leader_of};
 
-use mt_syntax::VarKind;
+use mt_tree::VarKind;
 
 /// A word that begins a statement.
 #[derive(Clone, Copy, Debug, PartialEq, Eq)]

@@ -1,8 +1,8 @@
 ghost use Rattle.std.specs.Prelude.{◌≡◌, ◌&&◌};
-ghost use Rattle.std.specs.List.{list_all, list_any};
-ghost use Rattle.std.specs.Str.{bytes_eq, chars};
+ghost use Rattle.std.specs.List.{list_all};
+ghost use Rattle.std.specs.Str.{chars};
 ghost use Rattle.unicode_ident.specs.Ident.{is_xid_continue};
-ghost use Rattle.mt_syntax.specs.Names.{is_name as names_something, reserved_words, starts_name};
+ghost use Rattle.mt_syntax.specs.Names.{is_name as names_something, starts_name};
 ghost use Rattle.mt_script_words.specs.Outcome.{Gives};
 ghost use Rattle.mt_script_words.specs.Words.{begins_name, mark_at, name_of};
 
@@ -10,62 +10,8 @@ use crate::refusal::CodeRefusal;
 use crate::texts::short_text;
 use crate::words::{after_word, word};
 use mt_syntax::Mark;
-use mt_tree::{Place, Text};
+use mt_tree::{Place, Text, word_reserved};
 use std::alloc::Global;
-
-const RESERVED: [&[u8]; 39] = [
-    b"break",
-    b"case",
-    b"catch",
-    b"class",
-    b"const",
-    b"continue",
-    b"debugger",
-    b"default",
-    b"delete",
-    b"do",
-    b"else",
-    b"export",
-    b"extends",
-    b"false",
-    b"finally",
-    b"for",
-    b"function",
-    b"if",
-    b"import",
-    b"in",
-    b"instanceof",
-    b"let",
-    b"new",
-    b"null",
-    b"return",
-    b"service",
-    b"super",
-    b"switch",
-    b"this",
-    b"throw",
-    b"true",
-    b"try",
-    b"typeof",
-    b"undefined",
-    b"var",
-    b"void",
-    b"while",
-    b"with",
-    b"yield",
-];
-
-fn is_listed(words: &[&[u8]], word: &[u8]) -> bool
-    ensures { result ≡ list_any (λ w. bytes_eq w.now word.now) words.now }
-{
-    words.iter().any(|w| *w == word)
-}
-
-fn is_reserved(word: &[u8]) -> bool
-    ensures { result ≡ list_any (λ w. bytes_eq w word.now) reserved_words }
-{
-    is_listed(&RESERVED, word)
-}
 
 fn starts_name(c: char) -> bool
     ensures { result ≡ starts_name c }
@@ -102,7 +48,7 @@ fn is_spelled(word: &str) -> bool
 fn is_name(word: &str) -> bool
     ensures { result ≡ names_something (chars word.now) }
 {
-    is_spelled(word) && !is_reserved(word.as_bytes())
+    is_spelled(word) && !word_reserved(word.as_bytes())
 }
 
 /// The name that the word is.

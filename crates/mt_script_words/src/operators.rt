@@ -4,7 +4,7 @@ ghost use Rattle.mt_script_words.specs.Operators.{arithmetic, comparison, equals
 use crate::refusal::CodeRefusal;
 use crate::rest::first;
 use mt_json::skip;
-use mt_syntax::Binary;
+use mt_tree::Binary;
 
 /// What stands between two operands.
 #[derive(Clone, Copy, Debug, PartialEq, Eq)]

@@ -1,6 +1,5 @@
 use crate::*;
-use mt_syntax::{Binary, VarKind};
-use mt_tree::Data;
+use mt_tree::{Binary, Data, VarKind};
 use std::test::Fail;
 
 #[test]

@@ -2,17 +2,14 @@ ghost use Rattle.mt_script_words.specs.Outcome.{Gives};
 ghost use Rattle.mt_script_words.specs.Words.{short, text_in};
 
 use crate::refusal::CodeRefusal;
-use mt_tree::Text;
+use mt_tree::{TEXT_LIMIT, Text};
 use std::alloc::Global;
 use std::str;
-
-// The most units of UTF-16 that a text of code has.
-const LONGEST: u64 = 1_048_576;
 
 fn short(text: Text) -> Result<Text, CodeRefusal>
     ensures { Gives (λ x. x) result (short text) }
 {
-    if text.units() <= LONGEST {
+    if text.units() <= TEXT_LIMIT {
         Ok(text)
     } else {
         Err(CodeRefusal::NotCode)

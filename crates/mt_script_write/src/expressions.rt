@@ -8,8 +8,8 @@ use crate::literal::append_literal;
 use crate::signs::{assignment_sign, binary_sign, unary_opening};
 use crate::values::{append_dollar, append_value};
 use mt_json::append_separator;
-use mt_syntax::{Expr, ExprKind, Prop, StepKind};
-use mt_tree::{Data, NoMemory, append, append_number};
+use mt_syntax::{Expr, ExprKind, Prop};
+use mt_tree::{Data, NoMemory, StepKind, append, append_number};
 use std::alloc::Global;
 
 #[cycle(code)]

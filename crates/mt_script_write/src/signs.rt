@@ -1,7 +1,7 @@
 ghost use Rattle.std.specs.Prelude.{◌≡◌, ◌∷◌, ◌++◌, []};
 ghost use Rattle.mt_syntax.specs.CodeText.{assign_text, binary_text, unary_text, var_text};
 
-use mt_syntax::{Binary, Unary, VarKind};
+use mt_tree::{Binary, Unary, VarKind};
 
 /// What stands before the operand of an operator.
 pub(crate) fn unary_opening(operator: Unary) -> &'static [u8]

@@ -1,6 +1,6 @@
 use crate::{code_text, write_code};
-use mt_syntax::{Binary, Expr, ExprKind, Stmt, StmtKind, Tilde, substitute};
-use mt_tree::{Boxed, Data, NoMemory, Place, Row, Text};
+use mt_syntax::{Expr, ExprKind, Stmt, StmtKind, Tilde, substitute};
+use mt_tree::{Binary, Boxed, Data, NoMemory, Place, Row, Text};
 use std::alloc::Global;
 use std::test::Fail;
 

@@ -1,7 +1,6 @@
 -- The evaluation of code whose names are resolved, one case for each statement and expression.
 use Rattle.std.specs.Prelude.{ℕ, zero, suc, true, List, [], ◌∷◌, ◌++◌, map, Option, None, Some, slice_get}
 use Rattle.mt_evaluation.specs.Calls as calls
-use Rattle.mt_evaluation.specs.Evaluation.{deepest, most_calls}
 use Rattle.mt_evaluation.specs.Expressions as forms
 use Rattle.mt_evaluation.specs.Host.{Meaning, Outside, outside_by}
 use Rattle.mt_evaluation.specs.References.{read_name, write_name, declare}
@@ -32,15 +31,16 @@ use Rattle.mt_slots.specs.declared.stmt.ForStart.{ForStart}
 use Rattle.mt_slots.specs.declared.stmt.ForStart.TheVariants as start
 use Rattle.mt_slots.specs.declared.stmt.Stmt.{Stmt, out-Stmt}
 use Rattle.mt_slots.specs.declared.stmt.Stmt.TheOpen.{Stmt-F}
-use Rattle.mt_syntax.specs.declared.tree.Binary.{Binary}
-use Rattle.mt_syntax.specs.declared.tree.VarKind.{VarKind}
-use Rattle.mt_syntax.specs.declared.tree.VarKind.TheVariants as word
+use Rattle.mt_tree.specs.declared.operators.Binary.{Binary}
+use Rattle.mt_tree.specs.declared.operators.VarKind.{VarKind}
+use Rattle.mt_tree.specs.declared.operators.VarKind.TheVariants as word
 use Rattle.mt_value.specs.declared.cell.Cell.{Cell}
 use Rattle.mt_value.specs.declared.cell.Cell.TheVariants as cell
 use Rattle.mt_value.specs.declared.cell.FunCell.{FunCell}
 use Rattle.mt_value.specs.declared.cell.Property.{Property}
 use Rattle.mt_value.specs.declared.value.Value.{Value}
 use Rattle.mt_value.specs.declared.value.Value.TheVariants as value
+use Rattle.mt_tree.specs.Limits.{call_limit, depth_limit}
 
 abbrev pub ExprLayer : Type 0
 ExprLayer = Expr-F Expr Piece Attribute Entry
@@ -241,7 +241,7 @@ module _ {H : Type 0} (functions : List Function) (host : Meaning H) where
   abbrev pub enter_to : ℕ → Enter H
   enter_to zero at arguments = with_function at (λ f. leave (exit.Stop stop.Depth))
   enter_to (suc left) at arguments =
-      with_function at (λ f. function_body functions (over host (enter_to left) (level (enter_to left) deepest)) (slice_get functions f.function) f.captured at arguments)
+      with_function at (λ f. function_body functions (over host (enter_to left) (level (enter_to left) depth_limit)) (slice_get functions f.function) f.captured at arguments)
 
   unfoldable pub parts : ℕ → ℕ → Parts H
   parts calls depth = over host (enter_to calls) (level (enter_to calls) depth)
@@ -252,8 +252,8 @@ module _ {H : Type 0} (functions : List Function) (host : Meaning H) where
   unfoldable pub unit : Unit' → Eval H Value
   unit u = do
     frame ← on_state (enter_unit functions u)
-    body functions (parts most_calls deepest) u.body.statements frame
+    body functions (parts call_limit depth_limit) u.body.statements frame
 
   -- a call that begins a job, and is not counted
   unfoldable pub called : Value → List Value → Eval H Value
-  called f arguments = calls.applied (parts (suc most_calls) deepest).outside f arguments
+  called f arguments = calls.applied (parts (suc call_limit) depth_limit).outside f arguments

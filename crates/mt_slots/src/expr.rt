@@ -1,6 +1,5 @@
 use crate::name::Name;
-use mt_syntax::{Binary, StepKind, Unary};
-use mt_tree::{Boxed, Data, Row, Text};
+use mt_tree::{Binary, Boxed, Data, Row, StepKind, Text, Unary};
 
 /// An expression.
 #[cycle(expr)]

@@ -1,7 +1,6 @@
 use crate::expr::Expr;
 use crate::name::Name;
-use mt_syntax::VarKind;
-use mt_tree::{Boxed, Row};
+use mt_tree::{Boxed, Row, VarKind};
 
 /// One name of a declaration, and what it begins with.
 #[derive(Drop)]

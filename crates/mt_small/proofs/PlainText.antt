@@ -5,9 +5,11 @@ use Rattle.std.proofs.lemmas.Bool.Decides.{nat_tests}
 use Rattle.std.proofs.lemmas.Str.{IsUtf8-from_ascii, IsUtf8-append, encodes-chars, encodes_same}
 use Rattle.std.specs.List.{list_all}
 use Rattle.std.specs.Str.{IsUtf8}
-use Rattle.mt_small.specs.Name.{is_lower, is_name, is_target, is_service_name, reserved_words, builtins, is_one_of, hop}
+use Rattle.mt_small.specs.Name.{is_lower, is_name, is_target, is_service_name, builtins, hop}
 use Rattle.mt_small.specs.Paragraph.{is_plain, is_paragraph}
 use Rattle.mt_small.proofs.Cuts.{same_bytes, lacks, starts_without_space}
+use Rattle.mt_tree.specs.Tables.{is_among}
+use Rattle.mt_tree.specs.Words.{reserved_words}
 
 ascii : (p : ℕ → Bool) → ((b : ℕ) → p b ≡ true → b < 128) → (bs : List ℕ) → list_all p bs ≡ true → (i : ℕ) → slice_index bs i < 128
 ascii p low [] e i = omega arith
@@ -33,7 +35,7 @@ pub name-utf8 : (bs : List ℕ) → is_name bs ≡ true → IsUtf8 bs
 name-utf8 bs e = utf8_by is_lower lower-low bs (name-lower bs e)
 
 pub service-name : (bs : List ℕ) → is_service_name bs ≡ true → is_name bs ≡ true
-service-name bs e = (and_parts (is_name bs) (not (is_one_of reserved_words bs) && not (is_one_of builtins bs)) e).0
+service-name bs e = (and_parts (is_name bs) (not (is_among reserved_words bs) && not (is_among builtins bs)) e).0
 
 pub service-utf8 : (bs : List ℕ) → is_service_name bs ≡ true → IsUtf8 bs
 service-utf8 bs e = name-utf8 bs (service-name bs e)

@@ -6,11 +6,12 @@ use Rattle.std.proofs.lemmas.Option.{none-some, same_Some, slice_get-get_or}
 use Rattle.mt_small.specs.declared.command.SmallCommand.{SmallCommand}
 use Rattle.mt_small.specs.declared.command_reader.LineKind.TheVariants.{Skipped, Command}
 use Rattle.mt_small.specs.CommandReader.{kind_of}
-use Rattle.mt_small.specs.Schedule.{Line, with_byte, lines_of, without_return, contents, IsGoodLine, SpellsCommands, line_limit, SpellsSchedule, IsFirstBad}
+use Rattle.mt_small.specs.Schedule.{Line, with_byte, lines_of, without_return, contents, IsGoodLine, SpellsCommands, SpellsSchedule, IsFirstBad}
 use Rattle.mt_small.specs.ScheduleReader.{IsFirstLine, IsTaken}
 use Rattle.mt_small.specs.Splitting.{before, from, before_back}
 use Rattle.mt_small.proofs.Commands.{command_in-again, kind-skipped, kind-command}
 use Rattle.mt_small.proofs.Cuts.{lacks, before-lacks, before-from, from-first, before_back-found, before_back-again}
+use Rattle.mt_tree.specs.Limits.{line_limit}
 
 -- a line feed ends the first line
 first-ended : (line after : List ℕ) → lacks 10 line ≡ true → lines_of (line ++ 10 ∷ after) ≡ record { bytes = line; ended = true } ∷ lines_of after

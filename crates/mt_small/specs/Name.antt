@@ -1,7 +1,9 @@
 -- Names of services and targets: lower-case ASCII letters.
 use Rattle.std.specs.Prelude.{◌&&◌, ℕ, Bool, not, List, [], ◌∷◌, length, take, drop, codes, nat_le}
 use Rattle.std.specs.Str.{bytes_eq}
-use Rattle.std.specs.List.{list_all, list_any}
+use Rattle.std.specs.List.{list_all}
+use Rattle.mt_tree.specs.Tables.{is_among}
+use Rattle.mt_tree.specs.Words.{object_name, array_name, string_name, number_name, error_name, log_name, alert_name, document_name, event_name, reserved_words}
 
 abbrev pub is_lower : ℕ → Bool
 is_lower byte = nat_le 97 byte && nat_le byte 122
@@ -18,25 +20,10 @@ hop = codes "/hop/"
 abbrev pub is_target : List ℕ → Bool
 is_target target = bytes_eq (take 5 target) hop && is_name (drop 5 target)
 
--- the words of the language that can't be a name
-abbrev pub reserved_words : List (List ℕ)
-reserved_words =
-    codes "break" ∷ codes "case" ∷ codes "catch" ∷ codes "class" ∷ codes "const" ∷ codes "continue" ∷ codes "debugger"
-    ∷ codes "default" ∷ codes "delete" ∷ codes "do" ∷ codes "else" ∷ codes "export" ∷ codes "extends" ∷ codes "false"
-    ∷ codes "finally" ∷ codes "for" ∷ codes "function" ∷ codes "if" ∷ codes "import" ∷ codes "in" ∷ codes "instanceof"
-    ∷ codes "let" ∷ codes "new" ∷ codes "null" ∷ codes "return" ∷ codes "service" ∷ codes "super" ∷ codes "switch"
-    ∷ codes "this" ∷ codes "throw" ∷ codes "true" ∷ codes "try" ∷ codes "typeof" ∷ codes "undefined" ∷ codes "var"
-    ∷ codes "void" ∷ codes "while" ∷ codes "with" ∷ codes "yield" ∷ []
-
 -- the names that the language gives a meaning
 abbrev pub builtins : List (List ℕ)
 builtins =
-    codes "Object" ∷ codes "Array" ∷ codes "String" ∷ codes "Number" ∷ codes "Error" ∷ codes "log" ∷ codes "alert"
-    ∷ codes "document" ∷ codes "event" ∷ []
-
--- whether one of these words is the name
-abbrev pub is_one_of : List (List ℕ) → List ℕ → Bool
-is_one_of words name = list_any (λ word. bytes_eq word name) words
+    object_name ∷ array_name ∷ string_name ∷ number_name ∷ error_name ∷ log_name ∷ alert_name ∷ document_name ∷ event_name ∷ []
 
 abbrev pub is_service_name : List ℕ → Bool
-is_service_name name = is_name name && (not (is_one_of reserved_words name) && not (is_one_of builtins name))
+is_service_name name = is_name name && (not (is_among reserved_words name) && not (is_among builtins name))

@@ -4,6 +4,7 @@ use Rattle.std.specs.Str.{IsUtf8}
 use Rattle.mt_small.specs.declared.command.SmallCommand.{SmallCommand}
 use Rattle.mt_small.specs.declared.command.SmallCommand.TheVariants.{Load, Serve, Deliver}
 use Rattle.mt_small.specs.Name.{is_target}
+use Rattle.mt_tree.specs.Limits.{line_limit}
 
 -- a line, and whether a line feed ends it
 pub record Line : Type 0 where
@@ -71,10 +72,6 @@ SpellsCommands [] commands = commands ≡ []
 SpellsCommands (line ∷ lines) commands =
     (IsSkipped line × SpellsCommands lines commands)
     ⊎ ((command : SmallCommand) × (rest : List SmallCommand) × (commands ≡ command ∷ rest) × SpellsCommand line command × SpellsCommands lines rest)
-
--- the most lines of a schedule
-abbrev pub line_limit : ℕ
-line_limit = 20000
 
 -- the text is a schedule of these commands
 abbrev pub SpellsSchedule : List ℕ → List SmallCommand → Type 0

@@ -3,7 +3,8 @@ ghost use Rattle.std.specs.List.{list_all};
 ghost use Rattle.std.specs.Str.{bytes_eq};
 ghost use Rattle.mt_small.specs.Name.{is_lower, is_name, is_target, is_service_name};
 
-use crate::words::{is_builtin, is_reserved};
+use crate::words::is_builtin;
+use mt_tree::word_reserved;
 
 /// Whether it is a lower-case ASCII letter.
 pub fn lower(byte: u8) -> bool
@@ -30,7 +31,7 @@ pub fn name_fits(bytes: &[u8]) -> bool
 pub fn service_name_fits(bytes: &[u8]) -> bool
     ensures { result ≡ is_service_name bytes.now }
 {
-    name_fits(bytes) && (!is_reserved(bytes) && !is_builtin(bytes))
+    name_fits(bytes) && (!word_reserved(bytes) && !is_builtin(bytes))
 }
 
 /// Whether it is `/hop/` and a name.

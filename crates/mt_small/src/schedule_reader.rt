@@ -9,11 +9,8 @@ ghost use Rattle.mt_small.specs.ScheduleReader.{IsFirstLine, IsTaken};
 use crate::command::SmallCommand;
 use crate::command_reader::{LineKind, kind_of};
 use crate::splitting::{before_back, place_of};
-use mt_tree::{NoMemory, Row};
+use mt_tree::{LINE_LIMIT, NoMemory, Row};
 use std::alloc::Global;
-
-/// The most lines that a schedule has.
-const LINE_LIMIT: u32 = 20_000;
 
 /// Why a text isn't read as a schedule.
 #[derive(Clone, Copy, Debug, PartialEq, Eq)]

@@ -27,14 +27,20 @@ pub fn write_load_of(target: &[u8], into: &mut Vec<u8>) -> Result<(), NoMemory>
 fn append_load_back(into: &mut Vec<u8>) -> Result<(), NoMemory>
     ensures { OnOk result (into.new.items ≡ into.old.items ++ load_back) }
 {
-    append(b" HTTP/1.1\r\nHost: localhost\r\nConnection: close\r\n\r\n", into)
+    append(
+        b" HTTP/1.1\r\nHost: localhost\r\nConnection: close\r\n\r\n",
+        into,
+    )
 }
 
 #[tactic(auto, unfolding(crate::specs::Wire::page_front))]
 fn append_page_front(into: &mut Vec<u8>) -> Result<(), NoMemory>
     ensures { OnOk result (into.new.items ≡ into.old.items ++ page_front) }
 {
-    append(b"HTTP/1.1 200 OK\r\nContent-Type: text/html; charset=utf-8\r\nContent-Length: ", into)
+    append(
+        b"HTTP/1.1 200 OK\r\nContent-Type: text/html; charset=utf-8\r\nContent-Length: ",
+        into,
+    )
 }
 
 #[tactic(auto, unfolding(crate::specs::Wire::page_middle))]

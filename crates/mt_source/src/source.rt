@@ -2,6 +2,7 @@ ghost use Rattle.std.specs.Prelude.{◌≡◌, ◌≤◌, [], IfErr, IfOk, Ok, O
 ghost use Rattle.mt_lexer.specs.Verdict.{Reads};
 ghost use Rattle.mt_stage.specs.Accepted.{broken_places};
 ghost use Rattle.mt_source.specs.Sources.{IsAcceptedText, IsRefusedWith, IsSourceOf};
+ghost use Rattle.mt_tree.specs.Limits.{source_limit};
 
 use crate::refusal::SourceRefusal;
 use mt_lexer::{Tokens, lex};
@@ -15,7 +16,7 @@ use std::alloc::Global;
 /// # Errors
 /// As [`read_source`].
 pub fn check_source(alloc: Global, text: &[u8]) -> Result<(), SourceRefusal>
-    requires short { length text.now ≤ 1048576 }
+    requires short { length text.now ≤ source_limit }
     ensures accepted { OnOk result (IsAcceptedText text.now) }
     ensures refused { IfErr result (λ refusal. IsRefusedWith text.now refusal) }
 {
@@ -29,7 +30,7 @@ pub fn check_source(alloc: Global, text: &[u8]) -> Result<(), SourceRefusal>
 /// The first refusal of spelling (`Spelling`), else of the grammar (`Grammar`), else of the stage rules (`Rules`), each with its place; or
 /// `NoMemory` of one of them, whether or not the source is accepted.
 pub fn read_source(alloc: Global, text: &[u8]) -> Result<Checked, SourceRefusal>
-    requires short { length text.now ≤ 1048576 }
+    requires short { length text.now ≤ source_limit }
     ensures accepted { IfOk result (λ program. IsSourceOf text.now program × (broken_places program ≡ [])) }
     ensures refused { IfErr result (λ refusal. IsRefusedWith text.now refusal) }
 {
@@ -38,7 +39,7 @@ pub fn read_source(alloc: Global, text: &[u8]) -> Result<Checked, SourceRefusal>
 }
 
 fn read_tokens(alloc: Global, tokens: &Tokens<'_>) -> Result<Checked, SourceRefusal>
-    requires short { length tokens.now.source ≤ 1048576 }
+    requires short { length tokens.now.source ≤ source_limit }
     requires read { Reads tokens.now.source (Ok tokens.now) }
     ensures accepted { IfOk result (λ program. IsSourceOf tokens.now.source program × (broken_places program ≡ [])) }
     ensures refused { IfErr result (λ refusal. IsRefusedWith tokens.now.source refusal) }

@@ -3,7 +3,7 @@ use Rattle.std.proofs.Common.{ℕ, ◌≤◌, length, arith}
 use Rattle.mt_grammar.specs.Token.{Token, Tokens, open_name}
 use Rattle.mt_grammar.specs.Tree.{Title, Key, Names, Expr, Exprs, Props, Attribute, Attributes, Child, Children, Decl, Decls, Optional, Start, Stmt, Stmts}
 use Rattle.mt_grammar.specs.Grammar.{Ends, ReadsNames, Parameters, Head, IsKey, Reads, ReadsList, ReadsProps, ReadsFunction, ReadsTilde, ReadsDollar, ReadsElement, ReadsAttribute, ReadsAttributes, ReadsChild, ReadsChildren, ReadsDecl, ReadsDecls, ReadsOptional, ReadsStart, ReadsBlock, ReadsBody, ReadsStmt, ReadsStmts, ReadsItem, ReadsItems, semicolon, before_brace, first_name, next_name, no_parameters, parameters, h_service, h_declaration, h_named, h_expression, key_word, key_text, r_assign, r_up, r_condition, r_operation, r_unary, r_step_before, r_step_after, r_dot, r_index, r_call_none, r_call, r_name, r_number, r_text, r_constant, r_paren, r_array_none, r_array, r_array_comma, r_object_none, r_object, r_object_comma, r_function, r_tilde, r_dollar, r_element, first_expr, next_expr, first_prop, next_prop, function_of, tilde_of, dollar_of, e_self, e_void, e_children, a_plain, a_quoted, a_tilde, a_dollar, no_attribute, next_attribute, c_text, c_element, c_tilde, c_dollar, no_child, next_child, d_only, d_as, first_decl, next_decl, o_absent, o_present, f_optional, f_vars, block_of, b_block, b_single, s_var, s_if, s_if_else, s_while, s_for, s_return, s_return_value, s_jump, s_throw, s_try, s_block, s_empty, s_expression, no_stmt, next_stmt, i_function, i_statement, no_item, next_item, IsProgram}
-use Rattle.mt_syntax.specs.declared.tree.VarKind.{VarKind}
+use Rattle.mt_tree.specs.declared.operators.VarKind.{VarKind}
 use Rattle.mt_grammar.specs.declared.terminal.Terminal.{Terminal}
 use Rattle.mt_source_laws.proofs.Tokens.{ShortTokens, open_name_short}
 use Rattle.mt_source_laws.proofs.Marks.{ShortTitle, ShortKey, ShortNames, ShortExpr, ShortExprs, ShortProps, ShortAttribute, ShortAttributes, ShortChild, ShortChildren, ShortDecl, ShortDecls, ShortOptional, ShortStart, ShortStmt, ShortStmts}

@@ -18,6 +18,7 @@ ghost use Rattle.mt_parser.specs.Parsing.{Answers};
 ghost use Rattle.mt_syntax.specs.ProgramLimits.{IsWithinLimits};
 ghost use Rattle.mt_syntax.specs.Texts.{longest_text};
 ghost use Rattle.mt_syntax.specs.declared.program.Program.{Program};
+ghost use Rattle.mt_tree.specs.Limits.{source_limit};
 
 use mt_parser_laws::{parsed_program_is_derived, parsed_program_is_not_too_deep};
 
@@ -28,7 +29,7 @@ pub fn texts_are_no_longer_than_source()
 
 /// The program of a source of at most 1,048,576 bytes is within the limits of the check of the stage rules.
 pub fn parsed_is_within_limits()
-    ensures { (s : Spelled) (end : Place) (program : Program) → length s.source ≤ 1048576 → Reads s.source (Ok s) → Answers (tokens_in s) end (Ok program) → IsWithinLimits program }
+    ensures { (s : Spelled) (end : Place) (program : Program) → length s.source ≤ source_limit → Reads s.source (Ok s) → Answers (tokens_in s) end (Ok program) → IsWithinLimits program }
 {
     parsed_program_is_derived();
     parsed_program_is_not_too_deep();

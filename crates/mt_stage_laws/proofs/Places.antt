@@ -6,8 +6,8 @@ use Rattle.std.proofs.lemmas.List.{map-append}
 use Rattle.mt_syntax.specs.Fold.{Every, ForStartLayer, StmtKindLayer}
 use Rattle.mt_syntax.specs.Substitution.{unplaced}
 use Rattle.mt_syntax.specs.declared.tree.Mark.{Mark}
-use Rattle.mt_syntax.specs.declared.tree.VarKind.{VarKind}
-use Rattle.mt_syntax.specs.declared.tree.VarKind.TheVariants as word
+use Rattle.mt_tree.specs.declared.operators.VarKind.{VarKind}
+use Rattle.mt_tree.specs.declared.operators.VarKind.TheVariants as word
 use Rattle.mt_syntax.specs.declared.tree.ExprKind.TheOpen.{ForStart-F, StmtKind-F}
 use Rattle.mt_declared.specs.Builtins.{is_builtin}
 use Rattle.mt_declared.specs.Declarations.{Declared, declarations, declared_by_kind, declared_by_start, declared_by_word, giving, holding, nothing}

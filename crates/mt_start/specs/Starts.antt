@@ -17,14 +17,11 @@ use Rattle.mt_start.specs.declared.startup.Startup.{Startup}
 use Rattle.mt_start.specs.declared.startup.Startup.TheVariants.{Started, Failed, NotBuilt, Refused}
 use Rattle.mt_syntax.specs.declared.program.Program.{Program}
 use Rattle.mt_value.specs.declared.cell.Cell.{Cell}
-
--- the steps of a job
-abbrev pub job_steps : ℕ
-job_steps = 1000000
+use Rattle.mt_tree.specs.Limits.{step_limit}
 
 -- an empty store and no global variables
 abbrev pub empty_state : State
-empty_state = record { store = []; globals = []; budget = job_steps }
+empty_state = record { store = []; globals = []; budget = step_limit }
 
 -- the top level of the file, by names
 unfoldable pub start_of : Program → Ran (State × Named Plain) Environment

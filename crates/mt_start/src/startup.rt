@@ -4,6 +4,7 @@ ghost use Rattle.mt_stage.specs.Accepted.{IsAccepted};
 ghost use Rattle.mt_evaluation.specs.Host.{done_ran};
 ghost use Rattle.mt_start.specs.Starts as spec;
 ghost use Rattle.mt_start.specs.Starts.{EndsLike, StartMeans, ending_of, ending_on, start_of};
+ghost use Rattle.mt_tree.specs.Limits.{source_limit};
 
 use mt_eval::evaluate;
 use mt_evaluation::{Budget, Done, Stop};
@@ -14,12 +15,9 @@ use mt_resolve::resolve;
 use mt_resolve_laws::shallow_programs_are_within;
 use mt_source::{SourceRefusal, read_source};
 use mt_syntax::Program;
-use mt_tree::{NoMemory, Text};
+use mt_tree::{NoMemory, STEP_LIMIT, Text};
 use mt_value::{Globals, Store};
 use std::alloc::Global;
-
-/// The steps of a job.
-const STEPS: u64 = 1_000_000;
 
 /// How the start of an application ends.
 #[derive(Drop)]
@@ -39,7 +37,7 @@ pub enum Startup {
 /// # Errors
 /// `NoMemory`.
 pub fn start(alloc: Global, text: &[u8]) -> Result<Startup, NoMemory>
-    requires short { length text.now ≤ 1048576 }
+    requires short { length text.now ≤ source_limit }
     ensures { IfOk result (λ ended. StartMeans text.now ended) }
 {
     match read_source(alloc, text) {
@@ -58,7 +56,7 @@ fn start_program(alloc: Global, program: &Program) -> Result<Startup, NoMemory>
     let mut store = Store::new(alloc);
     let mut globals = Globals::new(alloc);
     let mut host = PlainHost::new(alloc);
-    let mut budget = Budget { left: STEPS };
+    let mut budget = Budget { left: STEP_LIMIT };
     let done = evaluate(
         alloc,
         units.functions(),

@@ -10,7 +10,7 @@ use Rattle.mt_slots.specs.declared.stmt.ForStart.{ForStart}
 use Rattle.mt_slots.specs.declared.stmt.Stmt as code
 use Rattle.mt_slots.specs.declared.stmt.Stmt.{Stmt, out-Stmt, the_lemmas}
 use Rattle.mt_slots.specs.declared.stmt.Stmt.TheOpen.{Stmt-F}
-use Rattle.mt_syntax.specs.declared.tree.VarKind.{VarKind}
+use Rattle.mt_tree.specs.declared.operators.VarKind.{VarKind}
 
 var_layer : (kind : VarKind) (decls : List Decl) → out-Stmt (code.Var kind decls) ≡ Stmt-F.Var kind decls
 var_layer kind decls = search (rules, the_lemmas)

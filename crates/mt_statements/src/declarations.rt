@@ -4,14 +4,14 @@ ghost use Rattle.mt_evaluation.specs.Statements as statements;
 ghost use Rattle.mt_evaluator.specs.Nests.{Nests, rank};
 ghost use Rattle.mt_slots.specs.Slots as spec;
 ghost use Rattle.mt_slots.specs.Slots.{parts};
-ghost use Rattle.mt_syntax.specs.declared.tree.VarKind.TheVariants as word;
+ghost use Rattle.mt_tree.specs.declared.operators.VarKind.TheVariants as word;
 
 use crate::statements::Statements;
 use mt_evaluation::{Completion, Exit, Host, State};
 use mt_frames::referent;
 use mt_slots::{Decl, Expr, ForStart, Function, Name, Stmt};
 use mt_steps::{declare, write_name};
-use mt_syntax::VarKind;
+use mt_tree::VarKind;
 use mt_value::{Address, Value};
 use std::alloc::Global;
 

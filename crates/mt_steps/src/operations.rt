@@ -8,7 +8,7 @@ ghost use Rattle.mt_ops.specs.Operators.{binary_of, unary_of};
 use crate::throwing::{throw, value_or_throw};
 use mt_evaluation::{Exit, State};
 use mt_ops::{ErrorKind, Operator};
-use mt_syntax::{Binary, StepKind, Unary};
+use mt_tree::{Binary, StepKind, Unary};
 use mt_value::Value;
 use std::alloc::Global;
 

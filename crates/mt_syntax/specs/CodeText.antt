@@ -7,14 +7,14 @@ use Rattle.std.specs.Fmt.{signed_decimal}
 use Rattle.mt_syntax.specs.DataText.{separated, truth_text, data_text}
 use Rattle.mt_syntax.specs.Fold.{Every, ExprKindLayer, ForStartLayer, StmtKindLayer, DeclLayer, FunctionLayer, PropLayer, Steps, on_expr_kind, on_for_start, on_stmt_kind, on_decl, on_expr, on_function, on_prop, on_stmt}
 use Rattle.mt_syntax.specs.declared.tree.Mark.{Mark}
-use Rattle.mt_syntax.specs.declared.tree.Unary.{Unary}
-use Rattle.mt_syntax.specs.declared.tree.Unary.TheVariants as unary
-use Rattle.mt_syntax.specs.declared.tree.Binary.{Binary}
-use Rattle.mt_syntax.specs.declared.tree.Binary.TheVariants as binary
-use Rattle.mt_syntax.specs.declared.tree.StepKind.{StepKind}
-use Rattle.mt_syntax.specs.declared.tree.StepKind.TheVariants as steps
-use Rattle.mt_syntax.specs.declared.tree.VarKind.{VarKind}
-use Rattle.mt_syntax.specs.declared.tree.VarKind.TheVariants as word
+use Rattle.mt_tree.specs.declared.operators.Unary.{Unary}
+use Rattle.mt_tree.specs.declared.operators.Unary.TheVariants as unary
+use Rattle.mt_tree.specs.declared.operators.Binary.{Binary}
+use Rattle.mt_tree.specs.declared.operators.Binary.TheVariants as binary
+use Rattle.mt_tree.specs.declared.operators.StepKind.{StepKind}
+use Rattle.mt_tree.specs.declared.operators.StepKind.TheVariants as steps
+use Rattle.mt_tree.specs.declared.operators.VarKind.{VarKind}
+use Rattle.mt_tree.specs.declared.operators.VarKind.TheVariants as word
 use Rattle.mt_syntax.specs.declared.tree.Expr.{Expr}
 use Rattle.mt_syntax.specs.declared.tree.ExprKind.{ExprKind}
 use Rattle.mt_syntax.specs.declared.tree.StmtKind.{StmtKind}

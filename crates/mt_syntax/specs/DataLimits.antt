@@ -8,6 +8,7 @@ use Rattle.mt_tree.specs.declared.data.Data.TheOpen.{Data-F, Entry-F}
 use Rattle.mt_tree.specs.declared.data.Data.TheFolds.{fold-Data, fold-Entry}
 use Rattle.mt_syntax.specs.Data.{is_data}
 use Rattle.mt_syntax.specs.Depth.{greatest}
+use Rattle.mt_tree.specs.Limits.{data_depth_limit, data_node_limit, data_byte_limit}
 
 abbrev pub entry_value_step : Entry-F ℕ ℕ → ℕ
 entry_value_step e = e.value
@@ -63,6 +64,6 @@ bytes_of_entry = fold-Entry ℕ ℕ bytes_step entry_bytes_step
 
 pub record AreWithinLimits (ds : List Data) : Type 0 where
   pub «data» : list_all is_data ds ≡ true
-  pub depth : greatest (map depth_of_data ds) ≤ 40
-  pub nodes : sum (map nodes_of_data ds) ≤ 20000
-  pub bytes : sum (map bytes_of_data ds) ≤ 262144
+  pub depth : greatest (map depth_of_data ds) ≤ data_depth_limit
+  pub nodes : sum (map nodes_of_data ds) ≤ data_node_limit
+  pub bytes : sum (map bytes_of_data ds) ≤ data_byte_limit

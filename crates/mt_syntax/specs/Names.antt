@@ -1,19 +1,9 @@
 -- How names are spelled in a source, by their characters.
-use Rattle.std.specs.Prelude.{ℕ, Bool, false, not, ◌&&◌, ◌||◌, ◌==◌, nat_le, List, [], ◌∷◌, codes}
-use Rattle.std.specs.List.{list_all, list_any}
-use Rattle.std.specs.Str.{all_scalars, bytes_eq}
+use Rattle.std.specs.Prelude.{ℕ, Bool, false, not, ◌&&◌, ◌||◌, ◌==◌, nat_le, List, [], ◌∷◌}
+use Rattle.std.specs.List.{list_all}
+use Rattle.std.specs.Str.{all_scalars}
 use Rattle.unicode_ident.specs.Ident.{is_xid_start, is_xid_continue}
-
-abbrev pub reserved_words : List (List ℕ)
-reserved_words =
-    codes "break" ∷ codes "case" ∷ codes "catch" ∷ codes "class" ∷ codes "const" ∷ codes "continue" ∷ codes "debugger" ∷ codes "default"
-    ∷ codes "delete" ∷ codes "do" ∷ codes "else" ∷ codes "export" ∷ codes "extends" ∷ codes "false" ∷ codes "finally" ∷ codes "for"
-    ∷ codes "function" ∷ codes "if" ∷ codes "import" ∷ codes "in" ∷ codes "instanceof" ∷ codes "let" ∷ codes "new" ∷ codes "null"
-    ∷ codes "return" ∷ codes "service" ∷ codes "super" ∷ codes "switch" ∷ codes "this" ∷ codes "throw" ∷ codes "true" ∷ codes "try"
-    ∷ codes "typeof" ∷ codes "undefined" ∷ codes "var" ∷ codes "void" ∷ codes "while" ∷ codes "with" ∷ codes "yield" ∷ []
-
-abbrev pub is_reserved : List ℕ → Bool
-is_reserved word = list_any (λ known. bytes_eq known word) reserved_words
+use Rattle.mt_tree.specs.Words.{is_reserved}
 
 abbrev pub starts_name : ℕ → Bool
 starts_name c = (c == 95) || is_xid_start c

@@ -4,8 +4,9 @@ use Rattle.mt_syntax.specs.Depth.{depth_of_program}
 use Rattle.mt_syntax.specs.Derivation.{IsDerived}
 use Rattle.mt_syntax.specs.Texts.{longest_text}
 use Rattle.mt_syntax.specs.declared.program.Program.{Program}
+use Rattle.mt_tree.specs.Limits.{depth_limit, text_limit}
 
 pub record IsWithinLimits (p : Program) : Type 0 where
   pub derived : IsDerived p
-  pub depth : depth_of_program p ≤ 60
-  pub texts : longest_text p ≤ 1048576
+  pub depth : depth_of_program p ≤ depth_limit
+  pub texts : longest_text p ≤ text_limit

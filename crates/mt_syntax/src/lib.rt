@@ -28,6 +28,6 @@ pub use program::{Code, Program, Tilde};
 pub use rule::Rule;
 pub use substitution::substitute;
 pub use tree::{
-    Binary, Decl, Expr, ExprKind, ForStart, Function, Mark, Markup, MarkupAttribute, MarkupChild,
-    MarkupValue, Prop, StepKind, Stmt, StmtKind, Unary, VarKind,
+    Decl, Expr, ExprKind, ForStart, Function, Mark, Markup, MarkupAttribute, MarkupChild,
+    MarkupValue, Prop, Stmt, StmtKind,
 };

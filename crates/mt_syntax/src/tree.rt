@@ -1,4 +1,4 @@
-use mt_tree::{Boxed, Data, Place, Row, Text};
+use mt_tree::{Binary, Boxed, Data, Place, Row, StepKind, Text, Unary, VarKind};
 
 /// A name where it stands.
 #[derive(Drop)]
@@ -7,70 +7,6 @@ pub struct Mark {
     pub place: Place,
     /// The name.
     pub name: Text,
-}
-
-/// The word of a declaration.
-#[derive(Clone, Copy, Debug, PartialEq, Eq)]
-pub enum VarKind {
-    /// `var`
-    Var,
-    /// `let`
-    Let,
-    /// `const`
-    Const,
-}
-
-/// An operator before its operand.
-#[derive(Clone, Copy, Debug, PartialEq, Eq)]
-pub enum Unary {
-    /// `!`
-    Not,
-    /// `-`
-    Minus,
-    /// `+`
-    Plus,
-    /// `typeof`
-    Typeof,
-}
-
-/// An operator between two operands, both of which are evaluated.
-#[derive(Clone, Copy, Debug, PartialEq, Eq)]
-pub enum Binary {
-    /// `+`
-    Add,
-    /// `-`
-    Sub,
-    /// `*`
-    Mul,
-    /// `/`
-    Div,
-    /// `%`
-    Rem,
-    /// `<`
-    Less,
-    /// `<=`
-    LessEqual,
-    /// `>`
-    Greater,
-    /// `>=`
-    GreaterEqual,
-    /// `===`
-    Same,
-    /// `!==`
-    Different,
-}
-
-/// A step of a target by one.
-#[derive(Clone, Copy, Debug, PartialEq, Eq)]
-pub enum StepKind {
-    /// `++a`
-    IncBefore,
-    /// `--a`
-    DecBefore,
-    /// `a++`
-    IncAfter,
-    /// `a--`
-    DecAfter,
 }
 
 /// One name of a declaration, and what it begins with.

@@ -15,14 +15,14 @@ use Rattle.mt_syntax_laws.proofs.Harmless.{Harmless, joined, literal_harmless, n
 use Rattle.mt_syntax_laws.proofs.Layers.{map_decl, map_expr_kind, map_for_start, map_function, map_prop, map_stmt_kind}
 use Rattle.mt_syntax_laws.proofs.Related.{Preserved, Two, related_stmt}
 use Rattle.mt_syntax.specs.declared.tree.Mark.{Mark}
-use Rattle.mt_syntax.specs.declared.tree.Binary.{Binary}
-use Rattle.mt_syntax.specs.declared.tree.Binary.TheVariants as binary
-use Rattle.mt_syntax.specs.declared.tree.Unary.{Unary}
-use Rattle.mt_syntax.specs.declared.tree.Unary.TheVariants as unary
-use Rattle.mt_syntax.specs.declared.tree.StepKind.{StepKind}
-use Rattle.mt_syntax.specs.declared.tree.StepKind.TheVariants as steps
-use Rattle.mt_syntax.specs.declared.tree.VarKind.{VarKind}
-use Rattle.mt_syntax.specs.declared.tree.VarKind.TheVariants as word
+use Rattle.mt_tree.specs.declared.operators.Binary.{Binary}
+use Rattle.mt_tree.specs.declared.operators.Binary.TheVariants as binary
+use Rattle.mt_tree.specs.declared.operators.Unary.{Unary}
+use Rattle.mt_tree.specs.declared.operators.Unary.TheVariants as unary
+use Rattle.mt_tree.specs.declared.operators.StepKind.{StepKind}
+use Rattle.mt_tree.specs.declared.operators.StepKind.TheVariants as steps
+use Rattle.mt_tree.specs.declared.operators.VarKind.{VarKind}
+use Rattle.mt_tree.specs.declared.operators.VarKind.TheVariants as word
 use Rattle.mt_syntax.specs.declared.tree.Stmt.{Stmt}
 use Rattle.mt_syntax.specs.declared.tree.ExprKind.TheOpen.{ExprKind-F, ForStart-F, StmtKind-F}
 

@@ -22,9 +22,9 @@ use Rattle.mt_syntax.specs.declared.tree.Decl.{Decl, roll-Decl}
 use Rattle.mt_syntax.specs.declared.tree.Markup.{roll-Markup}
 use Rattle.mt_syntax.specs.declared.tree.MarkupChild.{MarkupChild, roll-MarkupChild}
 use Rattle.mt_syntax.specs.declared.tree.Mark.{Mark}
-use Rattle.mt_syntax.specs.declared.tree.VarKind.TheVariants as word
-use Rattle.mt_syntax.specs.declared.tree.Binary.TheVariants as binary
-use Rattle.mt_syntax.specs.declared.tree.StepKind.TheVariants as steps
+use Rattle.mt_tree.specs.declared.operators.VarKind.TheVariants as word
+use Rattle.mt_tree.specs.declared.operators.Binary.TheVariants as binary
+use Rattle.mt_tree.specs.declared.operators.StepKind.TheVariants as steps
 use Rattle.mt_syntax.specs.declared.tree.ExprKind.TheOpen.{ExprKind-F, StmtKind-F, ForStart-F, MarkupChild-F}
 use Rattle.mt_syntax.specs.declared.program.Code.{Code}
 use Rattle.mt_syntax.specs.declared.program.Program.{Program}

@@ -17,10 +17,11 @@ use Rattle.ucd_derived.specs.XidStartRanges as starts
 use Rattle.ucd_table.specs.Rows as rows
 use Rattle.unicode_ident.specs.Ident as derived
 use Rattle.mt_syntax.specs.Names as names
-use Rattle.mt_syntax.specs.Names.{is_name, is_word, is_reserved, starts_name}
+use Rattle.mt_syntax.specs.Names.{is_name, is_word, starts_name}
 use Rattle.mt_syntax.specs.CodeText as texts
 use Rattle.mt_syntax.specs.CodeText.{code_escaped, four_digits, is_escaped, literal}
 use Rattle.mt_syntax_laws.specs.Openings.{begins_harmlessly, opens_nothing}
+use Rattle.mt_tree.specs.Words.{is_reserved}
 
 abbrev pub Harmless : List ℕ → Type 0
 Harmless bs = opens_nothing bs ≡ true

@@ -4,12 +4,13 @@ use Rattle.std.specs.Str.{chars}
 use Rattle.mt_top.specs.declared.status.Status.{Status}
 use Rattle.mt_top.specs.declared.status.Status.TheVariants.{Done, Refused, Usage, BadSchedule, FileFault, SinkFault, WireFault, NoMemory, TooLong, StartFailed, DoorFault}
 use Rattle.mt_top.specs.Words.{Asked, check, start, replay, Asks}
-use Rattle.mt_top.specs.Texts.{FilesSeen, file_limit, IsRead, IsTooLong, Holds, HoldsMore, IsNotSmallText, IsNotScheduleText}
+use Rattle.mt_top.specs.Texts.{FilesSeen, IsRead, IsTooLong, Holds, HoldsMore, IsNotSmallText, IsNotScheduleText}
 use Rattle.mt_source.specs.Sources.{IsAcceptedText, IsNotAcceptedText, IsSourceOf}
 use Rattle.mt_start.specs.Starts.{Ending, StartsAs, started, failed, unbuilt}
 use Rattle.mt_start.proofs.Starts.{one_ending, none_refused}
 use Rattle.mt_top.specs.Meaning.{SinkSeen, WireSeen, IsUnstartedText, IsOneTooLong, BothRead, BothSpelled, StatusMeans, AskedMeans}
 use Rattle.mt_top.specs.Expected.{BothHold, OneHoldsMore, ExpectedOf, Expected, IsFault}
+use Rattle.mt_tree.specs.Limits.{source_limit}
 
 -- words ask for one thing alone
 asks_same : (words : List (List ℕ)) (x y : Asked) → Asks words x → Asks words y → x ≡ y
@@ -43,12 +44,12 @@ told_same None bytes text read holds = absurd (cc)
 told_same (Some x) bytes text read holds = read ∙ some_same x text holds
 
 -- a file that is too long holds more than one that is not
-not_longer : (told : Option (List ℕ)) (text : List ℕ) → IfSome told (λ x. file_limit < length x) → told ≡ Some text → length text ≤ file_limit → ⊥
+not_longer : (told : Option (List ℕ)) (text : List ℕ) → IfSome told (λ x. source_limit < length x) → told ≡ Some text → length text ≤ source_limit → ⊥
 not_longer None text long holds short = absurd (cc)
 not_longer (Some x) text long holds short =
     let same : length x ≡ length text = ap length (some_same x text holds) in omega (arith, same)
 
-not_shorter : (told : Option (List ℕ)) (bytes text : List ℕ) → IfSome told (λ x. bytes ≡ x) → length bytes ≤ file_limit → told ≡ Some text → file_limit < length text → ⊥
+not_shorter : (told : Option (List ℕ)) (bytes text : List ℕ) → IfSome told (λ x. bytes ≡ x) → length bytes ≤ source_limit → told ≡ Some text → source_limit < length text → ⊥
 not_shorter told bytes text read short holds long =
     let same : length bytes ≡ length text = ap length (told_same told bytes text read holds) in omega (arith, same)
 

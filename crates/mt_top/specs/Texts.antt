@@ -5,10 +5,7 @@ use Rattle.mt_small.specs.declared.application.Small.{Small}
 use Rattle.mt_small.specs.declared.command.SmallCommand.{SmallCommand}
 use Rattle.mt_small.specs.Application.{IsSmall, Spells}
 use Rattle.mt_small.specs.Schedule.{SpellsSchedule}
-
--- the most bytes of a file
-abbrev pub file_limit : ℕ
-file_limit = 1048576
+use Rattle.mt_tree.specs.Limits.{source_limit}
 
 -- the text is a small application
 abbrev pub IsSmallText : List ℕ → Type 0
@@ -31,16 +28,16 @@ pub record FilesSeen : Type 0 where
 
 -- the file of a name was read whole: these are its bytes, where it tells them
 abbrev pub IsRead : FilesSeen → List ℕ → List ℕ → Type 0
-IsRead files name bytes = IfSome (files.contents (chars name)) (λ told. bytes ≡ told) × (length bytes ≤ file_limit)
+IsRead files name bytes = IfSome (files.contents (chars name)) (λ told. bytes ≡ told) × (length bytes ≤ source_limit)
 
 -- it has more bytes than a file may have, where it tells them
 abbrev pub IsTooLong : FilesSeen → List ℕ → Type 0
-IsTooLong files name = IfSome (files.contents (chars name)) (λ told. file_limit < length told)
+IsTooLong files name = IfSome (files.contents (chars name)) (λ told. source_limit < length told)
 
 -- it tells that it holds this text, which is no longer than a file may be
 abbrev pub Holds : FilesSeen → List ℕ → List ℕ → Type 0
-Holds files name text = (files.contents (chars name) ≡ Some text) × (length text ≤ file_limit)
+Holds files name text = (files.contents (chars name) ≡ Some text) × (length text ≤ source_limit)
 
 -- it tells that it holds more
 abbrev pub HoldsMore : FilesSeen → List ℕ → Type 0
-HoldsMore files name = (text : List ℕ) × (files.contents (chars name) ≡ Some text) × (file_limit < length text)
+HoldsMore files name = (text : List ℕ) × (files.contents (chars name) ≡ Some text) × (source_limit < length text)

@@ -1,5 +1,6 @@
 ghost use Rattle.std.specs.Prelude.{◌≡◌, ◌≤◌, ℕ, List, length};
 ghost use Rattle.mt_top.specs.Meaning.{CheckMeans, TextMeans};
+ghost use Rattle.mt_tree.specs.Limits.{source_limit};
 
 use crate::lines::{accepted, file_fault, too_long};
 use crate::output::write_output;
@@ -46,7 +47,7 @@ pub fn check<F: Files, O: Sink>(
 
 // Accepts the text, or says why it is not accepted.
 fn check_text<O: Sink>(alloc: Global, text: &[u8], out: &mut O) -> Status
-    requires short { length text.now ≤ 1048576 }
+    requires short { length text.now ≤ source_limit }
     ensures meaning { TextMeans (record {
       held = O.held out.old;
       held_after = O.held out.new;

@@ -4,6 +4,7 @@ ghost use Rattle.std.specs.Io.KnownBytes.{append_known};
 ghost use Rattle.mt_small.specs.Readable.{AsksForTarget};
 ghost use Rattle.mt_top.specs.Lines.{bad_line};
 ghost use Rattle.mt_top.specs.Meaning.{TextsMean, CommandsMean, ModeIsFor, IsOutputFault};
+ghost use Rattle.mt_tree.specs.Limits.{source_limit};
 
 use crate::lines::bad_schedule_line;
 use crate::output::write_output;
@@ -26,7 +27,7 @@ pub fn play_texts<O: Sink, W: Wire>(
     wire: &mut W,
 ) -> Status
     requires idle { W.mode wire.old ≡ None }
-    requires short { length application.now ≤ 1048576 }
+    requires short { length application.now ≤ source_limit }
     ensures meaning { TextsMean (record {
       held = O.held out.old;
       held_after = O.held out.new;

@@ -4,6 +4,7 @@ ghost use Rattle.mt_source.specs.Sources.{IsOfText};
 ghost use Rattle.mt_top.specs.Lines.{source_line};
 ghost use Rattle.mt_top.specs.Meaning.{IsOutputFault};
 ghost use Rattle.mt_top.specs.Refusals.{IsUnplayedLine};
+ghost use Rattle.mt_tree.specs.Limits.{source_limit};
 
 use crate::lines::{grammar_line, not_built, rules_line, spelling_line};
 use crate::output::write_output;
@@ -32,7 +33,7 @@ pub fn write_refusal<O: Sink>(
 /// Says why a text that is no small application is not played: it is not accepted, or it uses what is not built. The error is the status
 /// with which the run ends.
 pub fn write_unplayed<O: Sink>(alloc: Global, text: &[u8], out: &mut O) -> Result<(), Status>
-    requires short { length text.now ≤ 1048576 }
+    requires short { length text.now ≤ source_limit }
     ensures ok { OnOk result ((line : List ℕ) × IsUnplayedLine text.now line × (O.held out.new ≡ append_known (O.held out.old) line)) }
     ensures err { IfErr result (IsOutputFault (O.faults out.old) (O.faults out.new)) }
     ensures later { O.faults out.old ≤ O.faults out.new }

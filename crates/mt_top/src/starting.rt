@@ -2,6 +2,7 @@ ghost use Rattle.std.specs.Prelude.{◌≡◌, ◌≤◌, ◌++◌, ℕ, List, O
 ghost use Rattle.std.specs.Io.KnownBytes.{append_known};
 ghost use Rattle.mt_top.specs.Lines.{failed_line, started_line};
 ghost use Rattle.mt_top.specs.Meaning.{IsOutputFault, StartMeans, TextStarts};
+ghost use Rattle.mt_tree.specs.Limits.{source_limit};
 
 use crate::lines::{failed_line, file_fault, not_built, started, too_long};
 use crate::output::write_output;
@@ -49,7 +50,7 @@ pub fn start<F: Files, O: Sink>(
 
 // Starts the application, and writes its log or why it did not start.
 fn start_text<O: Sink>(alloc: Global, text: &[u8], out: &mut O) -> Status
-    requires short { length text.now ≤ 1048576 }
+    requires short { length text.now ≤ source_limit }
     ensures meaning { TextStarts (record {
       held = O.held out.old;
       held_after = O.held out.new;

@@ -1,5 +1,6 @@
 //! The values that every layer of the compiler, the server and the client speaks of: texts, lists, places in a source,
-//! data that cross between the tiers, HTML trees, and the tables of tags and attributes.
+//! data that cross between the tiers, HTML trees, the tables of tags and attributes, the reserved words and the names of builtins,
+//! the kinds of tokens, the operators, and all limits.
 //!
 //! Contracts see each of them as a plain value without pointers: a [`Text`] is the list of its characters, a [`Row`] and a
 //! [`Buffer`] are lists of items, a [`Boxed`] is what it holds, and [`Data`] and [`Html`] are finite trees. So two values
@@ -17,20 +18,25 @@
 mod appending;
 mod boxed;
 mod buffer;
+pub mod builtin;
 mod closure;
 mod data;
 mod fault;
 mod first_place;
 mod html;
+mod kind;
 mod laws;
+mod limits;
 mod list;
 mod number;
+mod operators;
 mod part;
 mod place;
 mod row;
 mod tables;
 mod text;
 mod units;
+mod words;
 
 pub use appending::{append, append_count, append_number};
 pub use boxed::Boxed;
@@ -40,14 +46,22 @@ pub use data::{Data, Entry};
 pub use fault::NoMemory;
 pub use first_place::find;
 pub use html::{Attribute, AttributeValue, Element, Html};
+pub use kind::Kind;
 pub use laws::{cut_is_between, find_is_first};
+pub use limits::{
+    BODY_LIMIT, CALL_LIMIT, CLIENT_LIMIT, DATA_BYTE_LIMIT, DATA_DEPTH_LIMIT, DATA_NODE_LIMIT,
+    DEPTH_LIMIT, ERROR_LIMIT, FIELD_LIMIT, HEAD_LIMIT, LINE_LIMIT, NESTING_LIMIT, NUMBER_LIMIT,
+    SOURCE_LIMIT, STEP_LIMIT, TARGET_LIMIT, TEXT_LIMIT, TOKEN_LIMIT,
+};
 pub use list::push;
 pub use number::decimal_units;
+pub use operators::{Binary, StepKind, Unary, VarKind};
 pub use part::cut;
 pub use place::{Place, Span};
 pub use row::Row;
 pub use tables::{attribute_fits, handler_known, tag_known, tag_void};
 pub use text::Text;
+pub use words::{word_constant, word_reserved};
 
 #[cfg(test)]
 mod tests;

@@ -11,8 +11,8 @@ use crate::kinds::Kinds;
 use crate::predicate::Predicate;
 use crate::repeated::twice_at;
 use crate::search::Search;
-use mt_syntax::{Broken, Decl, Mark, Stmt, StmtKind, VarKind, earlier};
-use mt_tree::Row;
+use mt_syntax::{Broken, Decl, Mark, Stmt, StmtKind, earlier};
+use mt_tree::{Row, VarKind};
 use std::convert::Infallible;
 
 // Compares each declaration with those before it: takes no memory, and time in proportion to the square of the size of the scope.

@@ -2,7 +2,7 @@ use Rattle.std.proofs.Common.{◌≡◌, [], ◌∷◌, ◌++◌, ap, get_or, ma
 use Rattle.std.specs.List.{All}
 use Rattle.std.proofs.lemmas.List.{take_all}
 use Rattle.std.proofs.lemmas.List.Elements.{All-push}
-use Rattle.mt_lexer.specs.declared.token.Kind.TheVariants as k
+use Rattle.mt_tree.specs.declared.kind.Kind.TheVariants as k
 use Rattle.mt_lexer.specs.declared.token.Token.{Token as Lexed}
 use Rattle.mt_lexer.specs.Tokens.{marks_of, AllCut}
 use Rattle.mt_grammar.specs.Token.{Tokens}

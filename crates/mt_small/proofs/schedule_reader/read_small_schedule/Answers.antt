@@ -1,9 +1,10 @@
 use Rattle.std.proofs.Common.{◌≡◌, ◌+◌, ◌≤◌, Err, sym, ap, subst, arith}
 use Rattle.mt_small.specs.declared.schedule_reader.SmallLineRefusal.TheVariants.{BadLine}
-use Rattle.mt_small.specs.Schedule.{SpellsSchedule, IsFirstBad, line_limit}
+use Rattle.mt_small.specs.Schedule.{SpellsSchedule, IsFirstBad}
 use Rattle.mt_small.proofs.Schedules.{progress-more, progress-all, progress-bad, bad-line-refuses}
 use Rattle.mt_small.proofs.ScheduleTargets.{schedule_asks}
 use Rattle.mt_small.proofs.schedule_reader.read_small_schedule.Goals as goal
+use Rattle.mt_tree.specs.Limits.{line_limit}
 
 pub returns-then-number-gt-LINE_LIMIT-clause-refused : goal.returns-then-number-gt-LINE_LIMIT-clause-refused
 returns-then-number-gt-LINE_LIMIT-clause-refused c = λ number e.
