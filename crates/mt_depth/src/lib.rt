@@ -9,6 +9,3 @@ mod levels;
 mod place;
 
 pub use depth::first_too_deep;
-
-#[cfg(test)]
-mod tests;

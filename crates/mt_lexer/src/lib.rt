@@ -23,8 +23,6 @@ mod refusal;
 mod sign;
 mod step;
 mod tag;
-#[cfg(test)]
-mod tests;
 mod text;
 mod token;
 mod word;

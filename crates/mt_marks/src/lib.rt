@@ -19,8 +19,6 @@ mod place;
 mod reference;
 mod spelling;
 mod table;
-#[cfg(test)]
-mod tests;
 mod token;
 mod tokens;
 

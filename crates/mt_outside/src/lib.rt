@@ -26,8 +26,6 @@ mod sink;
 mod stored_message;
 mod storing;
 mod taking;
-#[cfg(test)]
-mod tests;
 mod wire;
 mod writing;
 

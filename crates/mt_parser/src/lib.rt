@@ -15,6 +15,3 @@ mod refusal;
 pub use laws::answer_is_unique;
 pub use parsing::parse;
 pub use refusal::ParseRefusal;
-
-#[cfg(test)]
-mod tests;

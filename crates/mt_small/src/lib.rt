@@ -27,6 +27,3 @@ pub use message::{Asked, Failure, Reply};
 pub use reading::{answer, read_reply, read_request};
 pub use schedule_reader::{SmallLineRefusal, read_small_schedule};
 pub use writing::{write_load, write_reply};
-
-#[cfg(test)]
-mod tests;

@@ -19,6 +19,3 @@ pub use checked::{Checked, check};
 pub use client::fits_client;
 pub use laws::{accepted_breaks_nothing, refusal_is_the_first};
 pub use refusal::StageRefusal;
-
-#[cfg(test)]
-mod tests;

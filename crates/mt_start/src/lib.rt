@@ -11,6 +11,3 @@ mod startup;
 
 pub use laws::a_text_has_one_ending;
 pub use startup::{Startup, start};
-
-#[cfg(test)]
-mod tests;

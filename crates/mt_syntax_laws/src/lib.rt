@@ -29,9 +29,6 @@ ghost use Rattle.mt_syntax.specs.Substitution.{subst, substituting};
 ghost use Rattle.mt_syntax_laws.specs.Blanked.{blanked};
 ghost use Rattle.mt_syntax_laws.specs.Openings.{opens_nothing};
 
-#[cfg(test)]
-mod tests;
-
 /// Substitution keeps the depth of a body, whatever it puts in.
 pub fn substitution_keeps_depth()
     ensures { (values : List Data) (body : List Stmt) → depth_of (subst values body) ≡ depth_of body }

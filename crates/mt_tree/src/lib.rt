@@ -64,6 +64,3 @@ pub use row::Row;
 pub use tables::{attribute_fits, handler_known, tag_known, tag_void};
 pub use text::Text;
 pub use words::{word_constant, word_reserved};
-
-#[cfg(test)]
-mod tests;
