@@ -23,6 +23,3 @@ pub use functions::{native, text_argument, texts_made_cost_nothing};
 pub use line::append_line;
 pub use methods::method;
 pub use refusal::{no_property, refuse};
-
-#[cfg(test)]
-mod tests;

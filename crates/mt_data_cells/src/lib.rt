@@ -9,6 +9,3 @@ mod counts;
 
 pub use cells::build;
 pub use counts::nodes;
-
-#[cfg(test)]
-mod tests;

@@ -12,6 +12,3 @@ mod jobs;
 mod levels;
 
 pub use jobs::{call, evaluate};
-
-#[cfg(test)]
-mod tests;

@@ -12,6 +12,3 @@ mod hoisting;
 pub use entry::{enter_function, enter_unit};
 pub use frame::{copied, grown, pushed, referent};
 pub use hoisting::{capture, define_all};
-
-#[cfg(test)]
-mod tests;

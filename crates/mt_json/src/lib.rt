@@ -37,6 +37,3 @@ pub use rest::{past_comma, skip};
 pub use scalars::hexadecimal;
 pub use separator::append_separator;
 pub use text::{hexadecimal_digit, json_text};
-
-#[cfg(test)]
-mod tests;

@@ -21,6 +21,3 @@ pub use mt_data_cells::build;
 pub use refusal::Refused;
 pub use rule::MarshalRule;
 pub use walk::snapshot;
-
-#[cfg(test)]
-mod tests;

@@ -19,6 +19,3 @@ mod text;
 
 pub use call::method;
 pub use cost::method_cost;
-
-#[cfg(test)]
-mod tests;

@@ -20,6 +20,3 @@ pub use error::{ErrorKind, Operator};
 pub use operator::{binary, is_truthy, unary};
 pub use outcome::{Outcome, Refusal, settle, throw};
 pub use text::{join_text, plain, push_text, type_name};
-
-#[cfg(test)]
-mod tests;

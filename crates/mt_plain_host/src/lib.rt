@@ -7,6 +7,3 @@
 mod host;
 
 pub use host::PlainHost;
-
-#[cfg(test)]
-mod tests;

@@ -21,6 +21,3 @@ pub use cost::{binary_cost, property_cost, unary_cost};
 pub use object::write_object;
 pub use property::{get_property, set_property};
 pub use thrown::error_text;
-
-#[cfg(test)]
-mod tests;

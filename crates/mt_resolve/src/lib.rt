@@ -19,6 +19,3 @@ pub use laws::services_capture_the_top;
 pub use program::{resolve, resolve_client};
 pub use service::Service;
 pub use units::{UnitId, Units};
-
-#[cfg(test)]
-mod tests;

@@ -20,6 +20,3 @@ mod walk;
 pub use laws::{one_text_for_each_code, only_values_differ, values_are_read_as_values};
 pub use mt_script_words::CodeRefusal;
 pub use reading::read_code;
-
-#[cfg(test)]
-mod tests;

@@ -24,6 +24,3 @@ pub use refusal::CodeRefusal;
 pub use rest::first;
 pub use values::{datum, number};
 pub use words::{after_word, word};
-
-#[cfg(test)]
-mod tests;

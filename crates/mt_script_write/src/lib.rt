@@ -16,6 +16,3 @@ mod values;
 mod writing;
 
 pub use writing::{code_text, write_code};
-
-#[cfg(test)]
-mod tests;

@@ -29,6 +29,3 @@ pub use throwing::{throw, value_or_throw};
 pub use variables::{
     declare, declare_global, read_global, read_variable, write_global, write_name, write_variable,
 };
-
-#[cfg(test)]
-mod tests;

@@ -21,6 +21,3 @@ pub use cell::{Cell, FrameCell, FunCell, Property};
 pub use globals::Globals;
 pub use store::Store;
 pub use value::{Native, Value};
-
-#[cfg(test)]
-mod tests;
