@@ -7,10 +7,10 @@ use Rattle.mt_lexer.specs.Tokens.{Spelled}
 use Rattle.mt_lexer.proofs.Turn.{at_end}
 use Rattle.mt_lexer.proofs.lexer.Lexer.finish.Goals as goal
 
-pub returns-then-len-gt-MOST_TOKENS-clause-ends : goal.returns-then-len-gt-MOST_TOKENS-clause-ends
-returns-then-len-gt-MOST_TOKENS-clause-ends c =
+pub returns-then-len-gt-TOKEN_LIMIT-clause-ends : goal.returns-then-len-gt-TOKEN_LIMIT-clause-ends
+returns-then-len-gt-TOKEN_LIMIT-clause-ends c =
     let mark : c.end.result ≡ end_mark c.args.self.now.tokens.source = c.end.ensures ∙ ap (λ (n : ℕ). let g : SourceChar = record { value = 0; span = between n n } in g) c.requires in
-    (ends (flow_of c.in_ok-flow.flow c.step.new.self.modes c.step.new.self.before), at_end _ _ _ _ _ _ _ mark c.in_ok-flow.ensures, omega (arith, c.len.ensures, c.if-len-gt-MOST_TOKENS.true))
+    (ends (flow_of c.in_ok-flow.flow c.step.new.self.modes c.step.new.self.before), at_end _ _ _ _ _ _ _ mark c.in_ok-flow.ensures, omega (arith, c.len.ensures, c.if-len-gt-TOKEN_LIMIT.true))
 
 pub returns-in-Continue : goal.returns-in-Continue
 returns-in-Continue c =
@@ -19,11 +19,11 @@ returns-in-Continue c =
       source = ap (λ (s : Spelled). s.source) c.in_ok-flow.ensures.1;
       ends = (
         elim c.in-Continue.is [ inl w ↦ at_end _ _ _ _ _ _ _ mark (rw w.1 at c.in_ok-flow.ensures) | inr w ↦ at_end _ _ _ _ _ _ _ mark (rw w at c.in_ok-flow.ensures) ],
-        omega (arith, c.len.ensures, c.if-len-gt-MOST_TOKENS.false),
+        omega (arith, c.len.ensures, c.if-len-gt-TOKEN_LIMIT.false),
       );
     }
 
 pub returns-in-Refuse-clause-ends : goal.returns-in-Refuse-clause-ends
 returns-in-Refuse-clause-ends c =
     let mark : c.end.result ≡ end_mark c.args.self.now.tokens.source = c.end.ensures ∙ ap (λ (n : ℕ). let g : SourceChar = record { value = 0; span = between n n } in g) c.requires in
-    (at_end _ _ _ _ _ _ _ mark (rw c.in-Refuse.is at c.in_ok-flow.ensures), omega (arith, c.len.ensures, c.if-len-gt-MOST_TOKENS.false))
+    (at_end _ _ _ _ _ _ _ mark (rw c.in-Refuse.is at c.in_ok-flow.ensures), omega (arith, c.len.ensures, c.if-len-gt-TOKEN_LIMIT.false))

@@ -27,23 +27,23 @@ new-here-requires c =
     let t = YieldsList-turn (YieldsList-from_chars c.args.text.now c.utf8.text cc) c.loop-c.yielded _ c.loop-c.yielded_by _ _ c.in-Some.c c.in-Some.is c.next.ensures.steps in
     let r = room (chars c.args.text.now) c.loop-c.at (length c.loop-c.yielded) c.in-Some.c (length c.args.text.now) t c.loop-c.invariant.left in omega (arith, r, c.requires.small)
 
-pub returns-then-len-gt-MOST_TOKENS-clause-ends : goal.returns-then-len-gt-MOST_TOKENS-clause-ends
-returns-then-len-gt-MOST_TOKENS-clause-ends c =
+pub returns-then-len-gt-TOKEN_LIMIT-clause-ends : goal.returns-then-len-gt-TOKEN_LIMIT-clause-ends
+returns-then-len-gt-TOKEN_LIMIT-clause-ends c =
     let t = YieldsList-turn (YieldsList-from_chars c.args.text.now c.utf8.text cc) c.loop-c.yielded _ c.loop-c.yielded_by _ _ c.in-Some.c c.in-Some.is c.next.ensures.steps in (
       follows (lexed c.args.text.now (characters_from (c.loop-c.at + length (encode_utf8 c.in-Some.c)) (drop (length c.loop-c.yielded + 1) (chars c.args.text.now)))) (flow_of c.in_ok-flow.flow c.step.new.self.modes c.step.new.self.before),
       one_turn c.args.text.now _ _ c.loop-c.invariant.source _ _ _ _ _ (chars c.args.text.now) c.loop-c.at (length c.loop-c.yielded) c.in-Some.c _ _ t c.new-here.ensures c.class_of.ensures c.in_ok-flow.ensures c.loop-c.invariant.so_far,
-      omega (arith, c.len.ensures, c.if-len-gt-MOST_TOKENS.true),
+      omega (arith, c.len.ensures, c.if-len-gt-TOKEN_LIMIT.true),
     )
 
 pub returns-in-Refuse-clause-ends : goal.returns-in-Refuse-clause-ends
 returns-in-Refuse-clause-ends c =
     let t = YieldsList-turn (YieldsList-from_chars c.args.text.now c.utf8.text cc) c.loop-c.yielded _ c.loop-c.yielded_by _ _ c.in-Some.c c.in-Some.is c.next.ensures.steps in
-    (one_turn c.args.text.now _ _ c.loop-c.invariant.source _ _ _ _ _ (chars c.args.text.now) c.loop-c.at (length c.loop-c.yielded) c.in-Some.c _ _ t c.new-here.ensures c.class_of.ensures (rw c.in-Refuse.is at c.in_ok-flow.ensures) c.loop-c.invariant.so_far, omega (arith, c.len.ensures, c.if-len-gt-MOST_TOKENS.false))
+    (one_turn c.args.text.now _ _ c.loop-c.invariant.source _ _ _ _ _ (chars c.args.text.now) c.loop-c.at (length c.loop-c.yielded) c.in-Some.c _ _ t c.new-here.ensures c.class_of.ensures (rw c.in-Refuse.is at c.in_ok-flow.ensures) c.loop-c.invariant.so_far, omega (arith, c.len.ensures, c.if-len-gt-TOKEN_LIMIT.false))
 
 pub returns-in-End-clause-ends : goal.returns-in-End-clause-ends
 returns-in-End-clause-ends c =
     let t = YieldsList-turn (YieldsList-from_chars c.args.text.now c.utf8.text cc) c.loop-c.yielded _ c.loop-c.yielded_by _ _ c.in-Some.c c.in-Some.is c.next.ensures.steps in
-    (one_turn c.args.text.now _ _ c.loop-c.invariant.source _ _ _ _ _ (chars c.args.text.now) c.loop-c.at (length c.loop-c.yielded) c.in-Some.c _ _ t c.new-here.ensures c.class_of.ensures (rw c.in-End.is at c.in_ok-flow.ensures) c.loop-c.invariant.so_far, omega (arith, c.len.ensures, c.if-len-gt-MOST_TOKENS.false))
+    (one_turn c.args.text.now _ _ c.loop-c.invariant.source _ _ _ _ _ (chars c.args.text.now) c.loop-c.at (length c.loop-c.yielded) c.in-Some.c _ _ t c.new-here.ensures c.class_of.ensures (rw c.in-End.is at c.in_ok-flow.ensures) c.loop-c.invariant.so_far, omega (arith, c.len.ensures, c.if-len-gt-TOKEN_LIMIT.false))
 
 pub loop-c-preserved : goal.loop-c-preserved
 loop-c-preserved c =
@@ -55,7 +55,7 @@ loop-c-preserved c =
       so_far = rw (e, n) one;
       left = rw (e, n) (room (chars c.args.text.now) c.loop-c.at (length c.loop-c.yielded) c.in-Some.c (length c.args.text.now) t c.loop-c.invariant.left);
       source = ap (λ (s : Spelled). s.source) c.in_ok-flow.ensures.1 ∙ c.loop-c.invariant.source;
-      few = omega (arith, c.len.ensures, c.if-len-gt-MOST_TOKENS.false);
+      few = omega (arith, c.len.ensures, c.if-len-gt-TOKEN_LIMIT.false);
     }
 
 pub finish-requires : goal.finish-requires
