@@ -17,7 +17,7 @@ fn are_within_limits(alloc: Global, items: &[Data]) -> Result<bool, NoMemory>
     ensures { IfOk result (λ fit. IsTrue fit ↔ AreWithinLimits items.now) }
 {
     let extent = Extent::of_items(items);
-    let small = extent.depth <= DATA_DEPTH_LIMIT
+    let small = extent.depth <= u64::from(DATA_DEPTH_LIMIT)
         && extent.nodes <= DATA_NODE_LIMIT
         && extent.bytes <= DATA_BYTE_LIMIT;
     Ok(small && are_data(alloc, items)?)
