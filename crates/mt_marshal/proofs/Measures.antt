@@ -33,11 +33,12 @@ use Rattle.mt_value.specs.declared.cell.Cell.TheVariants as cell
 use Rattle.mt_value.specs.declared.cell.Property.{Property}
 use Rattle.mt_value.specs.declared.value.Value.{Value}
 use Rattle.mt_value.specs.declared.value.Value.TheVariants as value
+use Rattle.mt_tree.specs.Limits.{data_byte_limit, data_node_limit}
 
 -- the counts are within the limits
 pub record IsSmall (c : Counts) : Type 0 where
-  pub nodes : c.nodes ≤ 20000
-  pub bytes : c.bytes ≤ 262144
+  pub nodes : c.nodes ≤ data_node_limit
+  pub bytes : c.bytes ≤ data_byte_limit
 
 both : (a b : Bool) → a ≡ true → b ≡ true → (a && b) ≡ true
 both a b first second = (λ i. first i && b) ∙ second
@@ -97,7 +98,7 @@ service_depth cs = search (rules, the_lemmas)
 
 -- ---- a node that was counted and breaks no rule
 
-cut : (n : ℕ) → counted n ≤ 262144 → counted n ≡ n
+cut : (n : ℕ) → counted n ≤ data_byte_limit → counted n ≡ n
 cut n small = omega (arith, small)
 
 none_broken : (a b c d e f : Bool) → (if a then Some rule.M1 else if b then Some rule.M2 else if c then Some rule.M3 else if d then Some rule.M4 else if e then Some rule.M5 else if f then Some rule.M6 else None) ≡ None → (e ≡ false) × (f ≡ false)
@@ -111,7 +112,7 @@ none_broken false false false false false false is = (refl, refl)
 
 unbroken : (levels : ℕ) (path : List ℕ) (v : Value) (c : Counts) → broken levels path v c ≡ None → IsSmall c
 unbroken levels path v c is =
-    let tests = none_broken (is_callable v) (is_html v) (is_opaque v) (stands_on path v) ((is_nested v && (levels == 0)) || nat_lt 20000 c.nodes) (nat_lt 262144 c.bytes) is in
+    let tests = none_broken (is_callable v) (is_html v) (is_opaque v) (stands_on path v) ((is_nested v && (levels == 0)) || nat_lt data_node_limit c.nodes) (nat_lt data_byte_limit c.bytes) is in
     record { nodes = grind (arith, nat_tests, tests.0); bytes = grind (arith, nat_tests, tests.1) }
 
 module _ (store : List Cell) where

@@ -34,6 +34,7 @@ use Rattle.mt_script_tree.specs.Expressions.{constant_of, function_at, is_target
 use Rattle.mt_script_tree.specs.Lists.{item_step, list_by}
 use Rattle.mt_script_tree.specs.Made as made
 use Rattle.mt_script_laws.proofs.Goodness.{AreMarks, Each, Good, IfAny, IsMark, IsMarkIfAny, expr_good, expr_kind_good, function_good, nothing_clean, rows_clean, rows_fit, stmt_good}
+use Rattle.mt_tree.specs.Limits.{text_limit}
 
 -- where something is read, it is of this kind, whatever follows it
 abbrev pub Reads : {A : Type 0} → (A → Type 0) → Option (A × List ℕ) → Type 0
@@ -95,10 +96,10 @@ marks_fit : (ms : List Mark) → AreMarks ms → list_all mark_fits ms ≡ true
 marks_fit [] is = refl
 marks_fit (m ∷ ms) is = and_from (mark_fits m) (list_all mark_fits ms) is.0.name (marks_fit ms is.1)
 
-pub mark_short : (m : Mark) → IsMark m → length_of_name m ≤ 1048576
-mark_short m is = leb-true (units_of m.name) 1048576 is.short
+pub mark_short : (m : Mark) → IsMark m → length_of_name m ≤ text_limit
+mark_short m is = leb-true (units_of m.name) text_limit is.short
 
-marks_short : (ms : List Mark) → AreMarks ms → greatest (map length_of_name ms) ≤ 1048576
+marks_short : (ms : List Mark) → AreMarks ms → greatest (map length_of_name ms) ≤ text_limit
 marks_short [] is = omega arith
 marks_short (m ∷ ms) is = omega (arith, mark_short m is.0, marks_short ms is.1)
 
@@ -140,7 +141,7 @@ number_yields bytes =
 name_finds : (word : List ℕ) → Finds GoodKind (name_of word >>= λ n. Some (made.kind (ExprKind-F.Name n)))
 name_finds word =
     then_finds {P = IsShortName} {Q = GoodKind} (name_of word) _ (names_found word)
-    (λ n is. finds _ _ (expr_kind_good (ExprKind-F.Name n) is.name (record { plain_code = refl; filled_code = refl; no_places = refl; short_texts = leb-true (units_of n) 1048576 is.short; small_values = refl })))
+    (λ n is. finds _ _ (expr_kind_good (ExprKind-F.Name n) is.name (record { plain_code = refl; filled_code = refl; no_places = refl; short_texts = leb-true (units_of n) text_limit is.short; small_values = refl })))
 
 constant_finds : (l : Leader) (word : List ℕ) → Finds GoodKind (constant_of l word)
 constant_finds (leader.Truth b) word = finds _ _ (expr_kind_good (ExprKind-F.Bool b) refl nothing_clean)
@@ -158,7 +159,7 @@ word_yields bytes =
 pub text_kind_yields : (bytes : List ℕ) → Reads GoodKind (text_at bytes >>= λ t. Some (made.kind (ExprKind-F.ExprKind::Text t.0), t.1))
 text_kind_yields bytes =
     reading IsShortText GoodKind (text_at bytes) _ (texts_found bytes)
-    (λ t is. gives GoodKind _ _ (expr_kind_good (ExprKind-F.ExprKind::Text t.0) is.scalars (record { plain_code = refl; filled_code = refl; no_places = refl; short_texts = leb-true (units_of t.0) 1048576 is.short; small_values = refl })))
+    (λ t is. gives GoodKind _ _ (expr_kind_good (ExprKind-F.ExprKind::Text t.0) is.scalars (record { plain_code = refl; filled_code = refl; no_places = refl; short_texts = leb-true (units_of t.0) text_limit is.short; small_values = refl })))
 
 -- ---- functions
 
@@ -170,7 +171,7 @@ name_nowhere : (name : Option Mark) → IsMarkIfAny name → name_is_nowhere nam
 name_nowhere None is = refl
 name_nowhere (Some m) is = mark_nowhere m is
 
-name_short : (name : Option Mark) → IsMarkIfAny name → length_of_own_name name ≤ 1048576
+name_short : (name : Option Mark) → IsMarkIfAny name → length_of_own_name name ≤ text_limit
 name_short None is = omega arith
 name_short (Some m) is = mark_short m is
 

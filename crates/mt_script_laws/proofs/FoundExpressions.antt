@@ -31,6 +31,7 @@ use Rattle.mt_script_tree.specs.Lists.{list_by}
 use Rattle.mt_script_tree.specs.Made as made
 use Rattle.mt_script_laws.proofs.Found.{GoodExpr, GoodKind, Known, Yields, both_fit, function_yields, gives, known, list_yields, made_expr, number_yields, reading, target_step, text_kind_yields, value_yields, word_yields}
 use Rattle.mt_script_laws.proofs.Goodness.{Each, Good, expr_kind_good, prop_good, rows_clean, rows_fit, with_clean}
+use Rattle.mt_tree.specs.Limits.{text_limit}
 
 abbrev KindFound : Option (ExprKind × List ℕ) → Type 0
 KindFound = Finds (λ (y : ExprKind × List ℕ). GoodKind y.0)
@@ -49,7 +50,7 @@ module _ (expr : Parse Expr) (e : Yields GoodExpr expr) where
       reading IsShortText (Good sort.Prop) (text_at (drop 1 bytes)) _ (texts_found (drop 1 bytes))
       (λ k is. reading GoodExpr (Good sort.Prop) (expr (drop 1 k.1)) _ (e (drop 1 k.1))
       (λ v g. gives (Good sort.Prop) _ v.1 (prop_good (record { name = k.0; value = v.0 }) (and_from (all_scalars k.0) (on_expr shaping v.0).fits is.scalars g.shaped)
-      (record { plain_code = g.clean.plain_code; filled_code = g.clean.filled_code; no_places = g.clean.no_places; short_texts = omega (arith, leb-true (units_of k.0) 1048576 is.short, g.clean.short_texts); small_values = g.clean.small_values }))))
+      (record { plain_code = g.clean.plain_code; filled_code = g.clean.filled_code; no_places = g.clean.no_places; short_texts = omega (arith, leb-true (units_of k.0) text_limit is.short, g.clean.short_texts); small_values = g.clean.small_values }))))
 
   unary_yields : (op : Unary) → Yields GoodKind (unary_at expr op)
   unary_yields op bytes = reading GoodExpr GoodKind (expr bytes) _ (e bytes) (λ a g. gives GoodKind _ (drop 1 a.1) (expr_kind_good (ExprKind-F.Unary op a.0) g.shaped g.clean))

@@ -31,6 +31,7 @@ use Rattle.mt_syntax_laws.proofs.Related.{on, at_decl, at_expr, at_expr_kind, at
 use Rattle.mt_syntax.specs.Texts.{length_of_name, measuring_texts}
 use Rattle.mt_script_words.specs.Values.{is_within}
 use Rattle.mt_script_words.specs.Words.{is_short}
+use Rattle.mt_tree.specs.Limits.{text_limit}
 
 -- ---- each value by itself
 
@@ -48,7 +49,7 @@ pub record Clean (plain filled nowhere : Bool) (longest : ℕ) (within : Bool) :
   pub plain_code : plain ≡ true
   pub filled_code : filled ≡ true
   pub no_places : nowhere ≡ true
-  pub short_texts : longest ≤ 1048576
+  pub short_texts : longest ≤ text_limit
   pub small_values : within ≡ true
 
 abbrev pub IsClean : (s : Sort) → Tree s → Type 0
@@ -63,7 +64,7 @@ moved a b c d e g = record {
   plain_code = sym a ∙ g.plain_code;
   filled_code = sym b ∙ g.filled_code;
   no_places = sym c ∙ g.no_places;
-  short_texts = subst (λ n. n ≤ 1048576) d g.short_texts;
+  short_texts = subst (λ n. n ≤ text_limit) d g.short_texts;
   small_values = sym e ∙ g.small_values;
 }
 
@@ -288,13 +289,13 @@ pub record IsMark (m : Mark) : Type 0 where
   pub short : is_short m.name ≡ true
   pub place : m.place ≡ nowhere
 
-pub mark_is : (m : Mark) → is_name m.name ≡ true → mark_is_nowhere m ≡ true → length_of_name m ≤ 1048576 → IsMark m
-mark_is m name no_where short = record { name = name; short = le-leb (units_of m.name) 1048576 short; place = no_place m.place no_where }
+pub mark_is : (m : Mark) → is_name m.name ≡ true → mark_is_nowhere m ≡ true → length_of_name m ≤ text_limit → IsMark m
+mark_is m name no_where short = record { name = name; short = le-leb (units_of m.name) text_limit short; place = no_place m.place no_where }
 
 abbrev pub AreMarks : List Mark → Type 0
 AreMarks = Each IsMark
 
-pub marks_are : (ms : List Mark) → list_all mark_fits ms ≡ true → list_all mark_is_nowhere ms ≡ true → greatest (map length_of_name ms) ≤ 1048576 → AreMarks ms
+pub marks_are : (ms : List Mark) → list_all mark_fits ms ≡ true → list_all mark_is_nowhere ms ≡ true → greatest (map length_of_name ms) ≤ text_limit → AreMarks ms
 marks_are [] name no_where short = tt
 marks_are (m ∷ ms) name no_where short =
     let names = and_parts (mark_fits m) (list_all mark_fits ms) name in

@@ -38,6 +38,7 @@ use Rattle.mt_script_laws.proofs.Ends.{differ}
 use Rattle.mt_script_laws.proofs.Facts.{ExprFacts, HeadReads, Opens, PropFacts, ReadsKind, by_head, depth_of_kind, depth_of_prop, opens, whole}
 use Rattle.mt_script_laws.proofs.Goodness.{AllGood, Good, good_expr_kind, good_rows}
 use Rattle.mt_script_laws.proofs.Items.{AreItems, IsItem, list_read}
+use Rattle.mt_tree.specs.Limits.{text_limit}
 
 -- ---- by the first byte
 
@@ -77,7 +78,7 @@ pub reads_name : (cs : List ℕ) → ReadsKind (ExprKind-F.Name cs)
 reads_name cs g =
     let good = good_expr_kind (ExprKind-F.Name cs) g in
     let name : is_name cs ≡ true = good.0 in
-    let short : is_short cs ≡ true = le-leb (units_of cs) 1048576 good.1.short_texts in
+    let short : is_short cs ≡ true = le-leb (units_of cs) text_limit good.1.short_texts in
     let text : expr_kind_text (roll-ExprKind (ExprKind-F.Name cs)) ≡ encode_utf8_all cs = at_expr_kind writing_code (ExprKind-F.Name cs) in
     let b = name_begins cs name in
     by_word (roll-ExprKind (ExprKind-F.Name cs)) (encode_utf8_all cs) text (record { head = b.head; tail = b.tail; whole = b.whole; is = word_opens b.head b.is.0 }) (name_bytes cs name) (name_word cs name)
@@ -136,7 +137,7 @@ pub reads_text : (cs : List ℕ) → ReadsKind (ExprKind-F.ExprKind::Text cs)
 reads_text cs g =
     let good = good_expr_kind (ExprKind-F.ExprKind::Text cs) g in
     let scalars : all_scalars cs ≡ true = good.0 in
-    let short : is_short cs ≡ true = le-leb (units_of cs) 1048576 good.1.short_texts in
+    let short : is_short cs ≡ true = le-leb (units_of cs) text_limit good.1.short_texts in
     let text : expr_kind_text (roll-ExprKind (ExprKind-F.ExprKind::Text cs)) ≡ literal cs = at_expr_kind writing_code (ExprKind-F.ExprKind::Text cs) in
     by_symbol (roll-ExprKind (ExprKind-F.ExprKind::Text cs)) 34 (flat_map code_escaped cs ++ 34 ∷ []) text refl refl
     (λ n rest deep e.

@@ -24,6 +24,7 @@ use Rattle.mt_stage.specs.CodeLimits.{IsCodeWithinLimits}
 use Rattle.mt_syntax.specs.Texts.{longest_in}
 use Rattle.mt_script_laws.specs.Readable.{IsReadable}
 use Rattle.mt_script_laws.proofs.Goodness.{AllGood, testing_within}
+use Rattle.mt_tree.specs.Limits.{text_limit, data_byte_limit, data_node_limit, data_depth_limit}
 
 -- ---- a test of each value
 
@@ -65,7 +66,7 @@ within_tested =
 
 -- ---- each value of a list within the limits is so by itself
 
-each_within : (ds : List Data) → list_all is_data ds ≡ true → greatest (map depth_of_data ds) ≤ 40 → sum (map nodes_of_data ds) ≤ 20000 → sum (map bytes_of_data ds) ≤ 262144 → list_all is_within ds ≡ true
+each_within : (ds : List Data) → list_all is_data ds ≡ true → greatest (map depth_of_data ds) ≤ data_depth_limit → sum (map nodes_of_data ds) ≤ data_node_limit → sum (map bytes_of_data ds) ≤ data_byte_limit → list_all is_within ds ≡ true
 each_within [] d depth nodes bytes = refl
 each_within (x ∷ ds) d depth nodes bytes =
     let parts = and_parts (is_data x) (list_all is_data ds) d in
@@ -76,7 +77,7 @@ each_within (x ∷ ds) d depth nodes bytes =
 
 -- ---- the two directions
 
-goods : (body : List Stmt) → is_shaped body ≡ true → is_plain body ≡ true → is_filled body ≡ true → stands_nowhere body ≡ true → longest_in body ≤ 1048576 → list_all is_within (values_of body) ≡ true → AllGood sort.Stmt body
+goods : (body : List Stmt) → is_shaped body ≡ true → is_plain body ≡ true → is_filled body ≡ true → stands_nowhere body ≡ true → longest_in body ≤ text_limit → list_all is_within (values_of body) ≡ true → AllGood sort.Stmt body
 goods [] shaped plain filled no_where short within = tt
 goods (s ∷ body) shaped plain filled no_where short within =
     let a = and_parts (on_stmt shaping s).fits (is_shaped body) shaped in
@@ -114,7 +115,7 @@ good_nowhere (s ∷ body) g = and_from (on_stmt testing_nowhere s) (stands_nowhe
 good_is_code : (body : List Stmt) → AllGood sort.Stmt body → IsCode body
 good_is_code body g = record { shaped = good_shaped body g; plain = good_plain body g; filled = good_filled body g; nowhere = good_nowhere body g }
 
-good_is_short : (body : List Stmt) → AllGood sort.Stmt body → longest_in body ≤ 1048576
+good_is_short : (body : List Stmt) → AllGood sort.Stmt body → longest_in body ≤ text_limit
 good_is_short [] g = omega arith
 good_is_short (s ∷ body) g = omega (arith, g.0.clean.short_texts, good_is_short body g.1)
 

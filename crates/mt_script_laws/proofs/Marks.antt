@@ -35,6 +35,7 @@ use Rattle.mt_script_laws.proofs.Facts.{DeclFacts, FunctionFacts, NoElse, PropFa
 use Rattle.mt_script_laws.proofs.Goodness.{AllGood, AreClean, AreMarks, FunctionClean, Good, IsClean, IsMark, IsMarkIfAny, good_decl, good_function, good_prop, good_rows, mark_is, marks_are}
 use Rattle.mt_script_laws.proofs.Heads.{HeldExpr}
 use Rattle.mt_script_laws.proofs.Items.{AreItems, AreNext, IsInside, list_read, nexts_by_length}
+use Rattle.mt_tree.specs.Limits.{text_limit}
 
 -- ---- names
 
@@ -104,7 +105,7 @@ reads_prop name e g =
     let p : Prop = made.prop name e.0 in
     let good = good_prop (record { name = name; value = e.0 }) g in
     let fits = and_parts (all_scalars name) (on_expr shaping e.0).fits good.0 in
-    let short : is_short name ≡ true = le-leb (units_of name) 1048576 (omega (arith, good.1.short_texts)) in
+    let short : is_short name ≡ true = le-leb (units_of name) text_limit (omega (arith, good.1.short_texts)) in
     let clean : IsClean sort.Expr e.0 = record { plain_code = good.1.plain_code; filled_code = good.1.filled_code; no_places = good.1.no_places; short_texts = omega (arith, good.1.short_texts); small_values = good.1.small_values } in
     let f = e.1 (record { shaped = fits.1; clean = clean }) in
     let text : prop_text p ≡ literal name ++ (58 ∷ expr_text e.0) = at_prop writing_code (record { name = name; value = e.0 }) in
@@ -154,7 +155,7 @@ own_name_read : (name : Option Mark) → IsMarkIfAny name → (more : List ℕ) 
 own_name_read None is more = refl
 own_name_read (Some m) is more = rw (mark_again m is (40 ∷ more) refl) refl
 
-own_name_is : (name : Option Mark) → name_fits name ≡ true → name_is_nowhere name ≡ true → length_of_own_name name ≤ 1048576 → IsMarkIfAny name
+own_name_is : (name : Option Mark) → name_fits name ≡ true → name_is_nowhere name ≡ true → length_of_own_name name ≤ text_limit → IsMarkIfAny name
 own_name_is None fits no_where short = tt
 own_name_is (Some m) fits no_where short = mark_is m fits no_where short
 

@@ -21,23 +21,24 @@ use Rattle.mt_json.proofs.Readings.{found_is}
 use Rattle.mt_script_words.specs.Words.{is_word_byte}
 use Rattle.mt_script_words.proofs.PlainWords.{IsDigitByte}
 use Rattle.mt_script_words.specs.Values.{datum_of, is_within, number_in, number_of, spelled_by}
+use Rattle.mt_tree.specs.Limits.{data_byte_limit, data_node_limit, data_depth_limit}
 
 pub record Within (d : Data) : Type 0 where
   pub «data» : is_data d ≡ true
-  pub depth : depth_of_data d ≤ 40
-  pub nodes : nodes_of_data d ≤ 20000
-  pub bytes : bytes_of_data d ≤ 262144
+  pub depth : depth_of_data d ≤ data_depth_limit
+  pub nodes : nodes_of_data d ≤ data_node_limit
+  pub bytes : bytes_of_data d ≤ data_byte_limit
 
 pub within : (d : Data) → is_within d ≡ true → Within d
 within d h =
-    let all = and_parts (is_data d) (nat_le (depth_of_data d) 40 && (nat_le (nodes_of_data d) 20000 && nat_le (bytes_of_data d) 262144)) h in
-    let counts = and_parts (nat_le (depth_of_data d) 40) (nat_le (nodes_of_data d) 20000 && nat_le (bytes_of_data d) 262144) all.1 in
-    let last = and_parts (nat_le (nodes_of_data d) 20000) (nat_le (bytes_of_data d) 262144) counts.1 in
+    let all = and_parts (is_data d) (nat_le (depth_of_data d) data_depth_limit && (nat_le (nodes_of_data d) data_node_limit && nat_le (bytes_of_data d) data_byte_limit)) h in
+    let counts = and_parts (nat_le (depth_of_data d) data_depth_limit) (nat_le (nodes_of_data d) data_node_limit && nat_le (bytes_of_data d) data_byte_limit) all.1 in
+    let last = and_parts (nat_le (nodes_of_data d) data_node_limit) (nat_le (bytes_of_data d) data_byte_limit) counts.1 in
     record { «data» = all.0; depth = leb-true _ _ counts.0; nodes = leb-true _ _ last.0; bytes = leb-true _ _ last.1 }
 
 pub is_within_by : (d : Data) → Within d → is_within d ≡ true
 is_within_by d w =
-    and_from (is_data d) _ w.data (and_from (nat_le (depth_of_data d) 40) _ (le-leb _ _ w.depth) (and_from (nat_le (nodes_of_data d) 20000) _ (le-leb _ _ w.nodes) (le-leb _ _ w.bytes)))
+    and_from (is_data d) _ w.data (and_from (nat_le (depth_of_data d) data_depth_limit) _ (le-leb _ _ w.depth) (and_from (nat_le (nodes_of_data d) data_node_limit) _ (le-leb _ _ w.nodes) (le-leb _ _ w.bytes)))
 
 pub alone : (d : Data) → Within d → AreWithinLimits (d ∷ [])
 alone d w = record { «data» = and_from (is_data d) true w.data refl; depth = omega (arith, w.depth); nodes = omega (arith, w.nodes); bytes = omega (arith, w.bytes) }

@@ -31,6 +31,7 @@ use Rattle.mt_stage_laws.proofs.Names.{names_once}
 use Rattle.mt_stage_laws.proofs.Plain.{plain_code}
 use Rattle.mt_stage_laws.proofs.Texts.{longest_kept}
 use Rattle.mt_stage_laws.proofs.Tildes.{all_at, at_most_greatest, flat_at, joined_at}
+use Rattle.mt_tree.specs.Limits.{text_limit}
 
 module _ (p : Program) (number : ℕ) (t : Tilde) (accepted : IsAccepted p) (is : slice_get p.tildes number ≡ Some t) where
   -- no form of the tilde is misplaced, and no name of it declared twice
@@ -54,7 +55,7 @@ module _ (p : Program) (number : ℕ) (t : Tilde) (accepted : IsAccepted p) (is 
   body_once : twice_in_client t.body ≡ []
   body_once = (parts_empty (twice_in_client t.body) (twice_in_row_of t.dollars) tilde_once).0
 
-  body_texts : longest_in t.body ≤ 1048576
+  body_texts : longest_in t.body ≤ text_limit
   body_texts =
       omega (
         arith,
@@ -75,7 +76,7 @@ module _ (p : Program) (number : ℕ) (t : Tilde) (accepted : IsAccepted p) (is 
     code_within = record {
       code = code t values derived enough (plain_code t.body body_placed.0) limits.«data»;
       depth = subst (λ d. d ≤ 60) (sym (depth_kept values t.body)) body_depth;
-      texts = subst (λ n. n ≤ 1048576) (sym (longest_kept values t.body)) body_texts;
+      texts = subst (λ n. n ≤ text_limit) (sym (longest_kept values t.body)) body_texts;
       values = subst AreWithinLimits (sym (values_of_code t values derived enough)) limits;
       jumps = jumps_fit values t.body body_placed.1;
       names = names_once values t.body body_once;
