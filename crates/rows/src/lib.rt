@@ -12,4 +12,4 @@
 
 mod line;
 
-pub use line::{Line, quoted};
+pub use line::{Line, made, quoted};

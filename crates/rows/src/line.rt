@@ -1,4 +1,4 @@
-use anyhow::{Context, Result};
+use anyhow::{Context, Result, bail};
 use serde_json::Value;
 use std::alloc::Global;
 
@@ -91,4 +91,12 @@ fn counted(rest: &str) -> (&str, usize) {
 /// A text as JSON text, in quotes.
 pub fn quoted(alloc: Global, text: &str) -> Result<String> {
     Ok(serde_json::to_string(alloc, &text)?)
+}
+
+/// The value of a call that is to succeed. The error says only that it did not.
+pub fn made<T, E: Drop>(answer: Result<T, E>) -> Result<T> {
+    match answer {
+        Ok(value) => Ok(value),
+        Err(_refused) => bail!("a call was refused"),
+    }
 }
