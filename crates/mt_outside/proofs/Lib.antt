@@ -4,3 +4,4 @@ pub mod Given
 pub mod Storage
 pub mod Named
 pub mod Counts
+pub mod Changed

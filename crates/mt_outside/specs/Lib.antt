@@ -4,7 +4,7 @@ pub mod Message
 pub mod Sink
 pub mod Take
 pub mod Calls
-pub mod Altered
+pub mod Arriving
 pub mod Stored
 pub mod Connection
 pub mod Entries

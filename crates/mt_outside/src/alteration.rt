@@ -1,6 +1,5 @@
-ghost use Rattle.std.specs.Prelude.{List};
-
 use crate::wire::Slot;
+use mt_tree::Buffer;
 
 /// One byte of one message that is to arrive as another.
 #[derive(Clone, Copy, Debug, PartialEq, Eq)]
@@ -13,12 +12,20 @@ pub struct Alteration {
     pub byte: u8,
 }
 
-/// What alters messages on their way.
-///
-/// It has no calls of its own. Contracts name its member where they say what arrives.
-pub trait Alters {
-    ghost use Rattle.mt_outside.specs.declared.alteration.Alteration.{Alteration};
+/// The bytes that a slot is to give in the place of those that are sent into it.
+#[derive(Drop)]
+pub struct Replacement {
+    /// The slot of the message.
+    pub slot: Slot,
+    /// The bytes. Of two replacements of one slot the last one counts.
+    pub bytes: Buffer<u8>,
+}
 
-    /// The alterations, in order.
-    ghost alterations: { Self → List Alteration };
+/// The length at which what a slot gives ends.
+#[derive(Clone, Copy, Debug, PartialEq, Eq)]
+pub struct Cut {
+    /// The slot of the message.
+    pub slot: Slot,
+    /// The most bytes that it gives. Of two cuts of one slot the last one counts.
+    pub length: u64,
 }

@@ -11,6 +11,8 @@
 #![tactic(auto)]
 
 mod alteration;
+mod alters;
+mod arriving;
 mod calls;
 mod closed_door;
 mod door;
@@ -21,15 +23,16 @@ mod files;
 mod memory_files;
 mod memory_sink;
 mod memory_wire;
+mod message_store;
 mod reading;
 mod sink;
 mod stored_message;
-mod storing;
 mod taking;
 mod wire;
 mod writing;
 
-pub use alteration::{Alteration, Alters};
+pub use alteration::Alteration;
+pub use alters::Alters;
 pub use closed_door::ClosedDoor;
 pub use door::Door;
 pub use fault::{Failed, SendFault};

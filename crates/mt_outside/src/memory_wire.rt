@@ -4,33 +4,31 @@ ghost use Rattle.std.specs.Io.{ReadsAtMost};
 ghost use Rattle.mt_outside.specs.Cause.{HasCause, SendCause, HasCount, SendCount};
 ghost use Rattle.mt_outside.specs.Calls.{fresh_plan, next_plan, FailsNext};
 ghost use Rattle.mt_outside.specs.Message.{with_send, with_given, was_sent, sent_of, given_of, ended_of, is_end, Begins, GivesAll, IsFaithful, IsFaithfulOn};
-ghost use Rattle.mt_outside.specs.Stored.{to_give, sent_altered};
 
-use crate::alteration::{Alteration, Alters};
+use crate::alteration::Alteration;
+use crate::alters::Alters;
 use crate::calls::{Calls, raise};
 use crate::fault::{Failed, SendFault};
 use crate::fault_plan::{FaultPlan, PieceLimit};
-use crate::stored_message::StoredMessage;
-use crate::storing::{place_of, store};
+use crate::message_store::MessageStore;
 use crate::wire::{Slot, Wire};
+use mt_tree::NoMemory;
 use std::alloc::Global;
 
-/// A wire in memory, which tells its messages. It gives what was sent, with its alterations.
+/// A wire in memory, which tells its messages. It gives what was sent, or what replaces it, altered and cut as it was told.
 ///
-/// Each `take` gives at most `piece` bytes. A call fails exactly where its number, counted from 1 over all calls, is in
-/// `failing`. A wire without alterations is faithful on every slot, whatever calls were made: `alterations` says so.
+/// Each `take` gives at most `piece` bytes. A call of the wire fails exactly where its number, counted from 1 over `begin`,
+/// `send` and `take`, is in `failing`. A wire on which nothing is altered, replaced or cut is faithful on every slot, whatever
+/// calls were made: `alterations` says so. The time that a call takes doesn't grow with the number of messages.
 #[derive(Drop)]
 pub struct MemoryWire {
-    alloc: Global,
     mode: Option<bool>,
-    messages: Vec<StoredMessage>,
-    alterations: Vec<Alteration>,
+    store: MessageStore,
     calls: Calls,
     faults: u64,
     piece: usize,
     ghost positive: { 0 < piece },
-    ghost idle: { ForNone mode (vec_len messages ≡ 0) },
-    ghost gives: { to_give messages.items ≡ sent_altered alterations.items messages.items },
+    ghost idle: { ForNone mode (vec_len store.messages ≡ 0) },
 }
 
 impl FaultPlan for MemoryWire {
@@ -42,11 +40,11 @@ impl PieceLimit for MemoryWire {
 }
 
 impl Alters for MemoryWire {
-    ghost alterations = { λ w. w.alterations.items };
+    ghost changes = { λ w. record { alterations = w.store.alterations.items; replacements = w.store.replacements.items; cuts = w.store.cuts.items } };
 }
 
 impl MemoryWire {
-    ghost use Rattle.mt_outside.specs.Altered.{altered};
+    ghost use Rattle.mt_outside.specs.Arriving.{arriving, no_changes, with_cut, with_replacement};
     ghost use Rattle.mt_outside.specs.declared.wire.Slot.{Slot};
 
     /// A wire that was not begun and that no call was made on. Takes no memory.
@@ -65,13 +63,11 @@ impl MemoryWire {
         ensures faults { ⟦<MemoryWire as Wire>⟧.faults result ≡ 0 }
         ensures plan { ⟦<MemoryWire as FaultPlan>⟧.plan result ≡ fresh_plan failing.items }
         ensures piece { ⟦<MemoryWire as PieceLimit>⟧.piece_limit result ≡ piece }
-        ensures alterations { ⟦<MemoryWire as Alters>⟧.alterations result ≡ alterations.items }
+        ensures changes { ⟦<MemoryWire as Alters>⟧.changes result ≡ record { alterations = alterations.items; replacements = []; cuts = [] } }
     {
         MemoryWire {
-            alloc,
             mode: None,
-            messages: Vec::new(alloc),
-            alterations,
+            store: MessageStore::new(alloc, alterations),
             calls: Calls { made: 0, failing },
             faults: 0,
             piece,
@@ -80,25 +76,67 @@ impl MemoryWire {
 
     /// The alterations that it was made with. Takes no memory.
     ///
-    /// Whatever calls were made, each message gives what was sent as these alter it. Where there are none, the wire is
-    /// faithful on every slot.
+    /// Whatever calls were made, each message gives what was sent as these alter it, and as it is replaced and cut. A wire on
+    /// which nothing is altered, replaced or cut is faithful on every slot.
     pub fn alterations(&self) -> &[Alteration]
-        ensures value { ⟦<MemoryWire as Alters>⟧.alterations self.now ≡ result.now }
-        ensures altered { IfSome (⟦<MemoryWire as Wire>⟧.messages self.now) (GivesAll (altered result.now)) }
-        ensures faithful { result.now ≡ [] → IfSome (⟦<MemoryWire as Wire>⟧.messages self.now) IsFaithful }
-        ensures every_slot { result.now ≡ [] → IfSome (⟦<MemoryWire as Wire>⟧.messages self.now) (λ ms. (slot : Slot) → IsFaithfulOn slot ms) }
+        ensures value { (⟦<MemoryWire as Alters>⟧.changes self.now).alterations ≡ result.now }
+        ensures arriving { IfSome (⟦<MemoryWire as Wire>⟧.messages self.now) (GivesAll (arriving (⟦<MemoryWire as Alters>⟧.changes self.now))) }
+        ensures faithful { ⟦<MemoryWire as Alters>⟧.changes self.now ≡ no_changes → IfSome (⟦<MemoryWire as Wire>⟧.messages self.now) IsFaithful }
+        ensures every_slot { ⟦<MemoryWire as Alters>⟧.changes self.now ≡ no_changes
+            → IfSome (⟦<MemoryWire as Wire>⟧.messages self.now) (λ ms. (slot : Slot) → IsFaithfulOn slot ms) }
     {
-        self.alterations.as_slice()
+        self.store.alterations.as_slice()
+    }
+
+    /// Cuts a slot, of which neither a byte nor the end was given yet: it gives at most its first `length` bytes, and then its
+    /// end, whether the message was sent already or is sent later. The last cut of a slot counts. Bytes are replaced and
+    /// altered before they are cut.
+    ///
+    /// It is no call that may be told to fail, and isn't counted as one.
+    ///
+    /// # Errors
+    /// `NoMemory`; nothing is cut then.
+    pub fn cut(&mut self, slot: Slot, length: u64) -> Result<(), NoMemory>
+        requires { ForSome (⟦<MemoryWire as Wire>⟧.messages self.old) (λ ms. (given_of slot ms ≡ []) × (ended_of slot ms ≡ false)) }
+        ensures ok { OnOk result (⟦<MemoryWire as Alters>⟧.changes self.new ≡ with_cut slot length (⟦<MemoryWire as Alters>⟧.changes self.old)) }
+        ensures err { OnErr result (⟦<MemoryWire as Alters>⟧.changes self.new ≡ ⟦<MemoryWire as Alters>⟧.changes self.old) }
+        ensures messages { ⟦<MemoryWire as Wire>⟧.messages self.new ≡ ⟦<MemoryWire as Wire>⟧.messages self.old }
+        ensures mode { ⟦<MemoryWire as Wire>⟧.mode self.new ≡ ⟦<MemoryWire as Wire>⟧.mode self.old }
+        ensures faults { ⟦<MemoryWire as Wire>⟧.faults self.new ≡ ⟦<MemoryWire as Wire>⟧.faults self.old }
+        ensures plan { ⟦<MemoryWire as FaultPlan>⟧.plan self.new ≡ ⟦<MemoryWire as FaultPlan>⟧.plan self.old }
+        ensures piece { ⟦<MemoryWire as PieceLimit>⟧.piece_limit self.new ≡ ⟦<MemoryWire as PieceLimit>⟧.piece_limit self.old }
+    {
+        self.store.cut(slot, length)
+    }
+
+    /// Replaces what a slot gives, of which neither a byte nor the end was given yet: it gives these bytes, whatever was sent
+    /// into it already or is sent later. The last replacement of a slot counts. Alterations and cuts apply to these bytes.
+    ///
+    /// It is no call that may be told to fail, and isn't counted as one.
+    ///
+    /// # Errors
+    /// `NoMemory`; nothing is replaced then.
+    pub fn replace(&mut self, slot: Slot, bytes: Vec<u8>) -> Result<(), NoMemory>
+        requires { ForSome (⟦<MemoryWire as Wire>⟧.messages self.old) (λ ms. (given_of slot ms ≡ []) × (ended_of slot ms ≡ false)) }
+        ensures ok { OnOk result (⟦<MemoryWire as Alters>⟧.changes self.new ≡ with_replacement slot bytes.items (⟦<MemoryWire as Alters>⟧.changes self.old)) }
+        ensures err { OnErr result (⟦<MemoryWire as Alters>⟧.changes self.new ≡ ⟦<MemoryWire as Alters>⟧.changes self.old) }
+        ensures messages { ⟦<MemoryWire as Wire>⟧.messages self.new ≡ ⟦<MemoryWire as Wire>⟧.messages self.old }
+        ensures mode { ⟦<MemoryWire as Wire>⟧.mode self.new ≡ ⟦<MemoryWire as Wire>⟧.mode self.old }
+        ensures faults { ⟦<MemoryWire as Wire>⟧.faults self.new ≡ ⟦<MemoryWire as Wire>⟧.faults self.old }
+        ensures plan { ⟦<MemoryWire as FaultPlan>⟧.plan self.new ≡ ⟦<MemoryWire as FaultPlan>⟧.plan self.old }
+        ensures piece { ⟦<MemoryWire as PieceLimit>⟧.piece_limit self.new ≡ ⟦<MemoryWire as PieceLimit>⟧.piece_limit self.old }
+    {
+        self.store.replace(slot, bytes)
     }
 }
 
 impl Wire for MemoryWire {
-    ghost use Rattle.mt_outside.specs.Altered.{altered};
+    ghost use Rattle.mt_outside.specs.Arriving.{arriving};
     ghost use Rattle.mt_outside.specs.Stored.{messages_of};
 
     ghost mode = { λ w. w.mode };
 
-    ghost messages = { λ w. Some (messages_of w.messages.items) };
+    ghost messages = { λ w. Some (messages_of w.store.messages.items) };
 
     ghost faults = { λ w. w.faults };
 
@@ -116,7 +154,7 @@ impl Wire for MemoryWire {
         ensures no_memory { result ≢ Err SendFault.NoMemory }
         ensures plan { ⟦<MemoryWire as FaultPlan>⟧.plan self.new ≡ next_plan (⟦<MemoryWire as FaultPlan>⟧.plan self.old) }
         ensures piece { ⟦<MemoryWire as PieceLimit>⟧.piece_limit self.new ≡ ⟦<MemoryWire as PieceLimit>⟧.piece_limit self.old }
-        ensures alterations { ⟦<MemoryWire as Alters>⟧.alterations self.new ≡ ⟦<MemoryWire as Alters>⟧.alterations self.old }
+        ensures changes { ⟦<MemoryWire as Alters>⟧.changes self.new ≡ ⟦<MemoryWire as Alters>⟧.changes self.old }
     {
         self.mode = Some(loopback);
         if self.calls.next_fails() {
@@ -138,21 +176,15 @@ impl Wire for MemoryWire {
         ensures exact { IsErrOf result SendFault.Failed ↔ FailsNext (⟦<MemoryWire as FaultPlan>⟧.plan self.old) }
         ensures plan { ⟦<MemoryWire as FaultPlan>⟧.plan self.new ≡ next_plan (⟦<MemoryWire as FaultPlan>⟧.plan self.old) }
         ensures piece { ⟦<MemoryWire as PieceLimit>⟧.piece_limit self.new ≡ ⟦<MemoryWire as PieceLimit>⟧.piece_limit self.old }
-        ensures alterations { ⟦<MemoryWire as Alters>⟧.alterations self.new ≡ ⟦<MemoryWire as Alters>⟧.alterations self.old }
+        ensures changes { ⟦<MemoryWire as Alters>⟧.changes self.new ≡ ⟦<MemoryWire as Alters>⟧.changes self.old }
     {
         if self.calls.next_fails() {
             raise(&mut self.faults);
             return Err(SendFault::Failed);
         }
-        match store(
-            self.alloc,
-            &self.alterations,
-            &mut self.messages,
-            slot,
-            bytes,
-        ) {
+        match self.store.send(slot, bytes) {
             Ok(()) => Ok(()),
-            Err(_refused) => Err(SendFault::NoMemory),
+            Err(NoMemory) => Err(SendFault::NoMemory),
         }
     }
 
@@ -168,25 +200,19 @@ impl Wire for MemoryWire {
         ensures err { OnErr result (⟦<MemoryWire as Wire>⟧.messages self.new ≡ ⟦<MemoryWire as Wire>⟧.messages self.old) }
         ensures over { IfOk result (λ n. IfSome (⟦<MemoryWire as Wire>⟧.messages self.old) (λ ms. ended_of slot ms ≡ true → n ≡ 0)) }
         ensures count { IfOk result (λ n. IfSome (⟦<MemoryWire as Wire>⟧.messages self.old) (λ ms.
-            n ≡ min (min (⟦<MemoryWire as PieceLimit>⟧.piece_limit self.old) (length into.new)) (length (altered (⟦<MemoryWire as Alters>⟧.alterations self.old) slot (sent_of slot ms)) - length (given_of slot ms)))) }
-        ensures altered { IfSome (⟦<MemoryWire as Wire>⟧.messages self.new) (GivesAll (altered (⟦<MemoryWire as Alters>⟧.alterations self.new))) }
+            n ≡ min (min (⟦<MemoryWire as PieceLimit>⟧.piece_limit self.old) (length into.new)) (length (arriving (⟦<MemoryWire as Alters>⟧.changes self.old) slot (sent_of slot ms)) - length (given_of slot ms)))) }
+        ensures arriving { IfSome (⟦<MemoryWire as Wire>⟧.messages self.new) (GivesAll (arriving (⟦<MemoryWire as Alters>⟧.changes self.new))) }
         ensures cause { HasCause (⟦<MemoryWire as Wire>⟧.faults self.old) (⟦<MemoryWire as Wire>⟧.faults self.new) result }
         ensures counted { HasCount (⟦<MemoryWire as Wire>⟧.faults self.old) (⟦<MemoryWire as Wire>⟧.faults self.new) result }
         ensures exact { IsErr result ↔ FailsNext (⟦<MemoryWire as FaultPlan>⟧.plan self.old) }
         ensures plan { ⟦<MemoryWire as FaultPlan>⟧.plan self.new ≡ next_plan (⟦<MemoryWire as FaultPlan>⟧.plan self.old) }
         ensures piece { ⟦<MemoryWire as PieceLimit>⟧.piece_limit self.new ≡ ⟦<MemoryWire as PieceLimit>⟧.piece_limit self.old }
-        ensures alterations { ⟦<MemoryWire as Alters>⟧.alterations self.new ≡ ⟦<MemoryWire as Alters>⟧.alterations self.old }
+        ensures changes { ⟦<MemoryWire as Alters>⟧.changes self.new ≡ ⟦<MemoryWire as Alters>⟧.changes self.old }
     {
         if self.calls.next_fails() {
             raise(&mut self.faults);
             return Err(Failed);
         }
-        let place = place_of(&self.messages, slot);
-        if place < self.messages.len() {
-            let stored = &mut self.messages[place];
-            Ok(stored.give(into, self.piece))
-        } else {
-            Ok(0)
-        }
+        Ok(self.store.give(slot, into, self.piece))
     }
 }

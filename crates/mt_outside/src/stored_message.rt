@@ -1,4 +1,4 @@
-ghost use Rattle.std.specs.Prelude.{◌≡◌, ◌≤◌, ◌<◌, ◌-◌, ◌++◌, ◌||◌, true, min, IsTrue, vec_len, length, take};
+ghost use Rattle.std.specs.Prelude.{◌≡◌, ◌≤◌, ◌<◌, ◌-◌, ◌++◌, ◌||◌, true, false, min, IsTrue, vec_len, length, take};
 ghost use Rattle.mt_outside.specs.Message.{is_end};
 
 use crate::wire::Slot;
@@ -39,5 +39,18 @@ impl StoredMessage {
             self.at += count;
         }
         count
+    }
+
+    /// Takes these bytes as those that it is to give, of which it gave none.
+    pub fn begin_with(&mut self, gives: Vec<u8>)
+        ensures slot { self.new.slot ≡ self.old.slot }
+        ensures sent { self.new.sent.items ≡ self.old.sent.items }
+        ensures gives { self.new.gives.items ≡ gives.items }
+        ensures at { self.new.at ≡ 0 }
+        ensures ended { self.new.ended ≡ false }
+    {
+        self.gives = gives;
+        self.at = 0;
+        self.ended = false;
     }
 }

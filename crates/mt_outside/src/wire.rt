@@ -7,7 +7,7 @@ ghost use Rattle.mt_outside.specs.Message.{Message, with_send, with_given, was_s
 use crate::fault::{Failed, SendFault};
 
 /// The place of one message: the request or the reply of one exchange between a client and the server.
-#[derive(Clone, Copy, Debug, PartialEq, Eq)]
+#[derive(Clone, Copy, Debug, PartialEq, Eq, Hash)]
 pub struct Slot {
     /// The number of the client.
     pub client: u32,

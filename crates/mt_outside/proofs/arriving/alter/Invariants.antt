@@ -1,6 +1,6 @@
 use Rattle.std.proofs.Common.{◌≡◌, drop}
-use Rattle.mt_outside.specs.Altered.{altered}
-use Rattle.mt_outside.proofs.storing.alter.Given as goal
+use Rattle.mt_outside.specs.Arriving.{altered}
+use Rattle.mt_outside.proofs.arriving.alter.Given as goal
 
 abbrev pub invariant-loop-alteration : goal.invariant-loop-alteration
 invariant-loop-alteration l =
