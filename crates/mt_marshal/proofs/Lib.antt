@@ -6,3 +6,5 @@ mod Measures
 mod Names
 mod Parts
 mod Seen
+mod Snapped
+mod Within

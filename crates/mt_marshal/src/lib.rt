@@ -16,7 +16,9 @@ mod rule;
 mod walk;
 
 pub use elaboration::elaborate;
-pub use laws::built_data_are_lawful;
+pub use laws::{
+    built_data_are_lawful, built_data_are_their_snapshot, data_within_limits_can_be_built,
+};
 pub use mt_data_cells::build;
 pub use refusal::Refused;
 pub use rule::MarshalRule;
