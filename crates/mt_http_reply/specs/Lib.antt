@@ -1,0 +1,4 @@
+pub mod Fed
+pub mod Reading
+pub mod ReplyText
+pub mod Stream
