@@ -1,15 +1,14 @@
 -- Heads of replies: no two have one text, none is a proper prefix of another, and each is short and ends in an empty line.
-use Rattle.std.proofs.Common.{◌≡◌, ◌≤◌, ◌<◌, ◌+◌, ◌-◌, ◌^◌, ℕ, Bool, true, false, ◌==◌, nat_eq, List, [], ◌∷◌, ◌++◌, length, take, drop, get_or, decimal, refl, sym, ap, ◌∙◌, subst, arith, append_assoc, codes}
+use Rattle.std.proofs.Common.{◌≡◌, ◌≤◌, ◌<◌, ◌+◌, ◌-◌, ◌^◌, ℕ, true, List, ◌∷◌, ◌++◌, length, take, drop, get_or, decimal, refl, sym, ap, ◌∙◌, subst, arith, append_assoc, codes}
 use Rattle.std.proofs.lemmas.Bool.{eqb-true}
 use Rattle.std.proofs.lemmas.Fmt.{length-decimal-le}
-use Rattle.std.proofs.lemmas.List.{append_cancel_left, length-append, drop_at}
-use Rattle.std.specs.List.{list_any, AllByRecursion}
+use Rattle.std.proofs.lemmas.List.{append_cancel_left, length-append}
 use Rattle.mt_http_types.specs.declared.reply.Content.{Content}
 use Rattle.mt_http_types.specs.declared.reply.Content.TheVariants.{Html, Json, Plain}
 use Rattle.mt_http_types.specs.declared.reply.ReplyHead.{ReplyHead}
-use Rattle.mt_http_types.specs.Lines.{crlf, line}
+use Rattle.mt_http_types.specs.Lines.{crlf}
 use Rattle.mt_http_types.proofs.Runs.{same_number}
-use Rattle.mt_http_reply.specs.ReplyText.{failure_statuses, is_status_of, phrase, media_type, status_line, head_start, head_end, head_text, body_limit, IsReplyHead}
+use Rattle.mt_http_reply.specs.ReplyText.{failure_statuses, is_status_of, phrase, media_type, head_start, head_end, head_text, IsReplyHead}
 use Rattle.mt_http_reply.proofs.Phrases.{of_each, phrase_is_known}
 
 -- ---- one head

@@ -1,7 +1,7 @@
 -- The phrase of each status is the one that its code has in the standard.
-use Rattle.std.proofs.Common.{◌≡◌, ◌≤◌, ◌<◌, ℕ, Bool, true, false, ◌==◌, ◌||◌, List, [], ◌∷◌, refl, sym, subst, ⊎_elim, arith}
+use Rattle.std.proofs.Common.{◌≡◌, ◌≤◌, ◌<◌, ℕ, true, false, ◌==◌, List, [], ◌∷◌, refl, sym, subst, ⊎_elim, arith}
 use Rattle.std.specs.Prelude.{Some}
-use Rattle.std.proofs.lemmas.Bool.{cases_Bool, eqb-true, cond-false}
+use Rattle.std.proofs.lemmas.Bool.{cases_Bool, eqb-true}
 use Rattle.std.specs.List.{list_any, AllByRecursion}
 use Rattle.http.specs.StatusCode.{reason_phrase}
 use Rattle.mt_http_types.specs.declared.reply.Content.{Content}

@@ -1,5 +1,5 @@
 -- No two replies have one text, and none's text is a proper prefix of another's.
-use Rattle.std.proofs.Common.{◌≡◌, ◌+◌, ℕ, List, [], ◌++◌, length, refl, sym, ap, ◌∙◌, arith, append_assoc}
+use Rattle.std.proofs.Common.{◌≡◌, ℕ, List, [], ◌++◌, length, sym, ap, ◌∙◌, arith, append_assoc}
 use Rattle.std.proofs.lemmas.List.{append-nil, length-append, nil_from_length}
 use Rattle.mt_http_types.specs.declared.reply.Reply.{Reply}
 use Rattle.mt_http_types.specs.declared.reply.ReplyHead.{ReplyHead}

@@ -1,7 +1,7 @@
 -- What holds of the bytes that were fed, step by step.
-use Rattle.std.proofs.Common.{◌≡◌, ◌≤◌, ◌<◌, ◌+◌, ◌-◌, ℕ, Bool, true, false, nat_eq, List, [], ◌∷◌, ◌++◌, length, take, drop, get_or, refl, sym, ap, ◌∙◌, subst, arith, append_assoc, ◌⊎◌, inl, inr}
-use Rattle.std.proofs.Math.Seq.{take-append-add, take-append_seam, drop-length, take-length}
-use Rattle.std.proofs.lemmas.List.{append-nil, length-append, drop_at, nil_from_length, take-append-le, take_all, take_more}
+use Rattle.std.proofs.Common.{◌≡◌, ◌≤◌, ◌<◌, ◌-◌, ℕ, true, false, nat_eq, List, [], ◌∷◌, ◌++◌, length, take, drop, refl, sym, ap, ◌∙◌, subst, arith, append_assoc, inl, inr}
+use Rattle.std.proofs.Math.Seq.{take-append-add, take-length}
+use Rattle.std.proofs.lemmas.List.{append-nil, length-append, drop_at, nil_from_length, take-append-le, take_all}
 use Rattle.std.proofs.lemmas.Bool.{cases_lt}
 use Rattle.std.specs.Cmp.Lexicographic.{pointwise}
 use Rattle.std.specs.List.{ends_with}
@@ -9,7 +9,7 @@ use Rattle.mt_http_types.specs.Lines.{crlf}
 use Rattle.mt_http_types.specs.declared.reply.Reply.{Reply}
 use Rattle.mt_http_types.specs.declared.reply.ReplyHead.{ReplyHead}
 use Rattle.mt_http_reply.specs.ReplyText.{head_of, head_text, reply_text, IsReply, IsReplyHead}
-use Rattle.mt_http_reply.specs.Reading.{ReadsHead, HasNoHead, HasHead, HasBody, BeginsNoReply, IsNoHead, IsNoReply, IsReplyWith}
+use Rattle.mt_http_reply.specs.Reading.{ReadsHead, HasNoHead, HasBody, BeginsNoReply, IsNoHead, IsNoReply, IsReplyWith}
 use Rattle.mt_http_reply.specs.Stream.{IsMissing, IsPast, IsLost}
 use Rattle.mt_http_reply.proofs.Heads.{head_parts, head_ends, head_size, one_head}
 

@@ -1,5 +1,5 @@
 -- What is known of a reply when a part of its bytes is there.
-use Rattle.std.specs.Prelude.{◌≡◌, ◌-◌, ◌+◌, ◌<◌, ◌⊎◌, ℕ, List, [], ◌++◌, length, take, drop}
+use Rattle.std.specs.Prelude.{◌≡◌, ◌-◌, ◌+◌, ◌⊎◌, ℕ, List, [], ◌++◌, length, take, drop}
 use Rattle.mt_http_types.specs.declared.reply.Content.{Content}
 use Rattle.mt_http_types.specs.declared.reply.Reply.{Reply}
 use Rattle.mt_http_types.specs.declared.reply.ReplyHead.{ReplyHead}

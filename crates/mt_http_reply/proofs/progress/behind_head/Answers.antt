@@ -1,5 +1,5 @@
 use Rattle.std.proofs.Common.{arith}
-use Rattle.mt_http_reply.proofs.StreamSteps.{none_follows, nothing_of_it, missing_at_first, much_of_it, head_over}
+use Rattle.mt_http_reply.proofs.StreamSteps.{none_follows, nothing_of_it}
 use Rattle.mt_http_reply.proofs.progress.behind_head.Goals as goal
 
 pub returns-then-bytes-lt-HEAD_LIMIT-clause-head : goal.returns-then-bytes-lt-HEAD_LIMIT-clause-head

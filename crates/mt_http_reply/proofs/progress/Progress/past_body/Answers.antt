@@ -1,4 +1,3 @@
-use Rattle.std.proofs.Common.{arith}
 use Rattle.mt_http_reply.specs.Stream.{TakesBody}
 use Rattle.mt_http_reply.specs.declared.progress.Progress.TheVariants.{Head, Past, Lost}
 use Rattle.mt_http_reply.proofs.Moves.{less, over, nothing_yet, nothing_more, nothing_ever, stays}
