@@ -12,4 +12,4 @@
 
 mod line;
 
-pub use line::{Line, made, quoted};
+pub use line::{Line, add, made, quoted};

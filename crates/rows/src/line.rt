@@ -93,6 +93,15 @@ pub fn quoted(alloc: Global, text: &str) -> Result<String> {
     Ok(serde_json::to_string(alloc, &text)?)
 }
 
+/// Adds a word to words, behind a space where it is not the first.
+pub fn add(words: &mut String, word: &str) -> Result<()> {
+    if !words.is_empty() {
+        words.push(' ')?;
+    }
+    words.push_str(word)?;
+    Ok(())
+}
+
 /// The value of a call that is to succeed. The error says only that it did not.
 pub fn made<T, E: Drop>(answer: Result<T, E>) -> Result<T> {
     match answer {
