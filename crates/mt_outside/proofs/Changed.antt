@@ -1,8 +1,7 @@
 -- What arrives after one more cut or replacement: the bytes of its slot change, and those of no other.
-use Rattle.std.proofs.Common.{◌≡◌, ◌++◌, ℕ, Bool, true, false, List, [], ◌∷◌, Option, None, Some, reverse, find, refl, sym, ap, ◌∙◌, cond}
+use Rattle.std.proofs.Common.{◌≡◌, ◌++◌, ℕ, Bool, true, false, List, [], ◌∷◌, Some, reverse, find, sym, ap, ◌∙◌, cond}
 use Rattle.std.proofs.lemmas.List.{reverse-append}
 use Rattle.mt_outside.specs.declared.wire.Slot.{Slot}
-use Rattle.mt_outside.specs.declared.alteration.Alteration.{Alteration}
 use Rattle.mt_outside.specs.declared.alteration.Replacement.{Replacement}
 use Rattle.mt_outside.specs.declared.alteration.Cut.{Cut}
 use Rattle.mt_outside.specs.Message.{is_slot}

@@ -5,3 +5,4 @@ pub mod Storage
 pub mod Named
 pub mod Counts
 pub mod Changed
+pub mod Doors

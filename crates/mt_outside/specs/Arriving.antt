@@ -1,6 +1,5 @@
 -- What arrives of a message on a wire that replaces, alters and cuts messages.
-use Rattle.std.specs.Prelude.{ℕ, List, [], ◌∷◌, ◌++◌, Option, None, Some, take, reverse, find, slice_set, option_map, if◌then◌else◌}
-use Rattle.std.specs.Option.{option_map_or}
+use Rattle.std.specs.Prelude.{ℕ, List, [], ◌∷◌, ◌++◌, Option, None, Some, take, reverse, find, slice_set, if◌then◌else◌}
 use Rattle.mt_outside.specs.declared.wire.Slot.{Slot}
 use Rattle.mt_outside.specs.declared.alteration.Alteration.{Alteration}
 use Rattle.mt_outside.specs.declared.alteration.Replacement.{Replacement}

@@ -8,3 +8,4 @@ pub mod Arriving
 pub mod Stored
 pub mod Connection
 pub mod Entries
+pub mod Connections

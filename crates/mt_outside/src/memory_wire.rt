@@ -88,6 +88,13 @@ impl MemoryWire {
         self.store.alterations.as_slice()
     }
 
+    /// Whether a message was sent into this slot. Takes no memory.
+    pub fn was_sent(&self, slot: Slot) -> bool
+        ensures { IfSome (⟦<MemoryWire as Wire>⟧.messages self.now) (λ ms. result ≡ was_sent slot ms) }
+    {
+        self.store.was_sent(slot)
+    }
+
     /// Cuts a slot, of which neither a byte nor the end was given yet: it gives at most its first `length` bytes, and then its
     /// end, whether the message was sent already or is sent later. The last cut of a slot counts. Bytes are replaced and
     /// altered before they are cut.

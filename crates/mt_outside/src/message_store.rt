@@ -52,6 +52,13 @@ impl MessageStore {
         self.slots.get_index_of(&slot)
     }
 
+    /// Whether a message was sent into this slot.
+    pub fn was_sent(&self, slot: Slot) -> bool
+        ensures { result ≡ was_sent slot (messages_of self.now.messages.items) }
+    {
+        self.slots.contains(&slot)
+    }
+
     /// Stores a message that is sent into a slot of which none was sent yet.
     pub fn send(&mut self, slot: Slot, bytes: &[u8]) -> Result<(), NoMemory>
         requires { was_sent slot (messages_of self.old.messages.items) ≡ false }

@@ -1,4 +1,4 @@
-use Rattle.std.proofs.Common.{◌≡◌, length, ap, arith}
+use Rattle.std.proofs.Common.{length, ap, arith}
 use Rattle.mt_outside.proofs.Storage.{length-messages}
 use Rattle.mt_outside.proofs.memory_wire.MemoryWire.replace.Goals as goal
 

@@ -1,9 +1,7 @@
-use Rattle.std.proofs.Common.{◌≡◌, ◌∙◌, ◌++◌, ◌∷◌, ◌&&◌, ◌==◌, [], List, Bool, false, ap, sym, subst, refl, cond}
+use Rattle.std.proofs.Common.{◌≡◌, ◌∙◌, ◌++◌, ◌∷◌, ◌&&◌, ◌==◌, [], false, ap, sym, cond}
 use Rattle.std.specs.List.{list_any}
-use Rattle.mt_outside.specs.declared.stored_message.StoredMessage.{StoredMessage}
-use Rattle.mt_outside.specs.declared.wire.Slot.{Slot}
 use Rattle.mt_outside.specs.Message.{is_slot}
-use Rattle.mt_outside.specs.Stored.{slots_of, are_distinct, to_give, arrivals, messages_of}
+use Rattle.mt_outside.specs.Stored.{slots_of}
 use Rattle.mt_outside.proofs.Storage.{slots_of-push, to_give-push, distinct-push, sent-slots, any-beq, beq-same}
 use Rattle.mt_outside.proofs.message_store.MessageStore.add.Goals as goal
 

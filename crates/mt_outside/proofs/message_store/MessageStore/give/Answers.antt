@@ -1,8 +1,7 @@
 use Rattle.std.proofs.Common.{◌≡◌, ◌<◌, ◌-◌, ◌∙◌, ap, refl, sym, length, arith, get_or, set, take, min}
 use Rattle.std.specs.Vec.{vec_len}
-use Rattle.mt_outside.specs.Arriving.{arriving}
-use Rattle.mt_outside.specs.Stored.{messages_of, message_of, slots_of, are_distinct, place_in, to_give}
-use Rattle.mt_outside.specs.Message.{given_more, is_end, sent_of, given_of}
+use Rattle.mt_outside.specs.Stored.{message_of, slots_of, are_distinct, place_in}
+use Rattle.mt_outside.specs.Message.{given_more, is_end}
 use Rattle.mt_outside.proofs.Storage.{messages_of-given, slots_of-set, to_give-set, ended-place, left-place}
 use Rattle.mt_outside.proofs.message_store.MessageStore.give.Goals as goal
 

@@ -1,4 +1,4 @@
-use Rattle.std.proofs.Common.{◌≡◌, ◌&&◌, ◌==◌, ap, ◌∙◌, position}
+use Rattle.std.proofs.Common.{◌&&◌, ◌==◌, ap, ◌∙◌, position}
 use Rattle.mt_outside.proofs.Storage.{place_at, beq-same}
 use Rattle.mt_outside.proofs.message_store.MessageStore.place_of.Goals as goal
 

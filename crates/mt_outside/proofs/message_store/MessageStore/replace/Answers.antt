@@ -1,10 +1,9 @@
-use Rattle.std.proofs.Common.{◌≡◌, ◌<◌, ◌∙◌, ◌++◌, ◌∷◌, Some, ℕ, List, [], ap, sym, subst, get_or, set, length, arith, take, refl}
-use Rattle.mt_outside.specs.declared.alteration.Cut.{Cut}
+use Rattle.std.proofs.Common.{◌≡◌, ◌<◌, ◌∙◌, List, ap, sym, subst, get_or, set, length, arith, take}
 use Rattle.mt_outside.specs.declared.alteration.Replacement.{Replacement}
-use Rattle.mt_outside.specs.Arriving.{Changes, arriving, with_replacement, altered, shortened, cut_of, replaced, replacement_of}
-use Rattle.mt_outside.specs.Stored.{slots_of, are_distinct, place_in, to_give, arrivals, messages_of}
+use Rattle.mt_outside.specs.Arriving.{Changes, arriving, with_replacement, altered, shortened, cut_of}
+use Rattle.mt_outside.specs.Stored.{slots_of, are_distinct, place_in, to_give, arrivals}
 use Rattle.mt_outside.proofs.Changed.{replacement-agrees, replacement-own}
-use Rattle.mt_outside.proofs.Storage.{slots_of-set, slot-place, to_give-changed, arrivals-off, messages_of-fresh, sent-slots, one_item, after_push}
+use Rattle.mt_outside.proofs.Storage.{slots_of-set, slot-place, to_give-changed, arrivals-off, messages_of-fresh, sent-slots, after_push}
 use Rattle.mt_outside.proofs.message_store.MessageStore.replace.Goals as goal
 
 pub invariant_of-self-in-Some : goal.invariant_of-self-in-Some

@@ -1,4 +1,4 @@
-use Rattle.std.proofs.Common.{◌≡◌, ◌∙◌, ◌++◌, ◌∷◌, [], List, ℕ, ap, false}
+use Rattle.std.proofs.Common.{◌∙◌, ◌++◌, ◌∷◌, [], List, ℕ, ap, false}
 use Rattle.mt_outside.specs.Message.{Message}
 use Rattle.mt_outside.specs.Stored.{messages_of}
 use Rattle.mt_outside.proofs.Storage.{messages_of-push}
