@@ -252,7 +252,19 @@ impl Door for MemoryDoor {
     }
 
     /// It isn't counted among the calls. Takes no memory.
-    fn close(&mut self) {
+    fn close(&mut self)
+        requires { ⟦<MemoryDoor as Door>⟧.is_open self.old ≡ true }
+        ensures port { ⟦<MemoryDoor as Door>⟧.asked_port self.new ≡ ⟦<MemoryDoor as Door>⟧.asked_port self.old }
+        ensures listens { ⟦<MemoryDoor as Door>⟧.listens self.new ≡ ⟦<MemoryDoor as Door>⟧.listens self.old }
+        ensures is_open { ⟦<MemoryDoor as Door>⟧.is_open self.new ≡ false }
+        ensures accepted { ⟦<MemoryDoor as Door>⟧.accepted self.new ≡ ⟦<MemoryDoor as Door>⟧.accepted self.old }
+        ensures connections { ⟦<MemoryDoor as Door>⟧.connections self.new ≡ ⟦<MemoryDoor as Door>⟧.connections self.old }
+        ensures faults { ⟦<MemoryDoor as Door>⟧.faults self.new ≡ ⟦<MemoryDoor as Door>⟧.faults self.old }
+        ensures others { ⟦<MemoryDoor as Door>⟧.connection_faults self.new ≡ ⟦<MemoryDoor as Door>⟧.connection_faults self.old }
+        ensures plan { ⟦<MemoryDoor as FaultPlan>⟧.plan self.new ≡ ⟦<MemoryDoor as FaultPlan>⟧.plan self.old }
+        ensures piece { ⟦<MemoryDoor as PieceLimit>⟧.piece_limit self.new ≡ ⟦<MemoryDoor as PieceLimit>⟧.piece_limit self.old }
+        ensures awaited { ⟦<MemoryDoor as Awaits>⟧.awaited self.new ≡ ⟦<MemoryDoor as Awaits>⟧.awaited self.old }
+    {
         self.is_open = false;
     }
 }
