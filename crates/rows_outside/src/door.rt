@@ -1,9 +1,14 @@
-//! A door that is closed.
+//! A door that is closed, and one in memory.
 
-use anyhow::Result;
-use mt_outside::{ClosedDoor, Door};
-use rows::Line;
+ghost use Rattle.std.specs.Prelude.{◌≡◌, true, false, OnOk};
+
+use crate::arguments::{failing, list, piece};
+use anyhow::{Context, Result, bail, ensure};
+use mt_outside::{Awaits, ClosedDoor, Door, MemoryDoor};
+use mt_tree::{Buffer, push};
+use rows::{Line, made, quoted};
 use std::alloc::Global;
+use std::str;
 
 /// Opens a closed door at a port.
 pub fn door(alloc: Global, line: &Line) -> Result<String> {
@@ -11,4 +16,69 @@ pub fn door(alloc: Global, line: &Line) -> Result<String> {
     let mut door = ClosedDoor::new();
     let opened = door.open(port);
     Ok(format!(in alloc; "{opened:?}")?)
+}
+
+/// Opens a door on which texts come in, accepts three times, writes a text on each connection, and says what went out on the first two.
+pub fn memory_door(alloc: Global, line: &Line) -> Result<String> {
+    let piece = piece(line, 0)?;
+    ensure!(piece > 0, "no piece");
+    let failing = failing(alloc, line, 1)?;
+    let incoming = incoming(alloc, line, 2)?;
+    ensure!(incoming.len() >= 2, "no two connections");
+    let answer = line.text(3)?.as_bytes();
+    let Ok(mut door) = MemoryDoor::new(alloc, incoming, failing, piece) else {
+        bail!("no memory")
+    };
+    let opened = door.open(80);
+    if opened.is_err() {
+        return Ok(format!(in alloc; "{opened:?}")?);
+    }
+    let first = visit(alloc, &mut door, answer)?;
+    let second = visit(alloc, &mut door, answer)?;
+    let third = visit(alloc, &mut door, answer)?;
+    let out = quoted(alloc, str::from_utf8(door.outgoing(0))?)?;
+    let other = quoted(alloc, str::from_utf8(door.outgoing(1))?)?;
+    Ok(format!(in alloc; "{first}, {second}, {third}, {out} {other}")?)
+}
+
+fn incoming(alloc: Global, line: &Line, at: usize) -> Result<Vec<Buffer<u8>>> {
+    let mut connections = Vec::new(alloc);
+    for item in list(line, at)? {
+        let bytes = item.as_str().context("no text")?.as_bytes();
+        let bytes = Buffer::from_vec(Vec::from_slice(alloc, bytes)?);
+        made(push(&mut connections, bytes))?;
+    }
+    Ok(connections)
+}
+
+// Accepts a connection, reads twice at most 4 bytes of it, writes, and closes it.
+fn visit(alloc: Global, door: &mut MemoryDoor, answer: &[u8]) -> Result<String>
+    requires listens { ⟦<MemoryDoor as Door>⟧.listens door.old ≡ true }
+    requires closed { ⟦<MemoryDoor as Door>⟧.is_open door.old ≡ false }
+    ensures listens { OnOk result (⟦<MemoryDoor as Door>⟧.listens door.new ≡ true) }
+    ensures closed { OnOk result (⟦<MemoryDoor as Door>⟧.is_open door.new ≡ false) }
+    ensures awaited { OnOk result (⟦<MemoryDoor as Awaits>⟧.awaited door.new ≡ ⟦<MemoryDoor as Awaits>⟧.awaited door.old) }
+{
+    let accepted = door.accept();
+    if accepted.is_err() {
+        return Ok(format!(in alloc; "{accepted:?}")?);
+    }
+    let first = part(alloc, door)?;
+    let second = part(alloc, door)?;
+    let written = door.write(answer);
+    door.close();
+    Ok(format!(in alloc; "{first} {second} {written:?}")?)
+}
+
+fn part(alloc: Global, door: &mut MemoryDoor) -> Result<String>
+    requires { ⟦<MemoryDoor as Door>⟧.is_open door.old ≡ true }
+    ensures listens { ⟦<MemoryDoor as Door>⟧.listens door.new ≡ ⟦<MemoryDoor as Door>⟧.listens door.old }
+    ensures open { ⟦<MemoryDoor as Door>⟧.is_open door.new ≡ true }
+    ensures awaited { ⟦<MemoryDoor as Awaits>⟧.awaited door.new ≡ ⟦<MemoryDoor as Awaits>⟧.awaited door.old }
+{
+    let mut into = [0u8; 4];
+    match door.read(&mut into) {
+        Ok(count) => quoted(alloc, str::from_utf8(&into[..count])?),
+        Err(fault) => Ok(format!(in alloc; "{fault:?}")?),
+    }
 }

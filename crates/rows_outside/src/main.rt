@@ -33,6 +33,7 @@ fn answer(alloc: Global, line: &Line) -> Result<String> {
         "wire" => wire::wire(alloc, line),
         "changed" => wire::changed(alloc, line),
         "door" => door::door(alloc, line),
+        "memory_door" => door::memory_door(alloc, line),
         "request" => messages::request(alloc, line),
         "reply" => messages::reply(alloc, line),
         other => bail!("no call {other}"),
