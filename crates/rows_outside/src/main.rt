@@ -1,5 +1,5 @@
-//! Calls of the forms of the outside in memory and of the readers of messages, one for each line of standard input, and an answer for
-//! each on standard output. The forms fail at the calls whose numbers a line says, take and give pieces of the length that
+//! Calls of the forms of the outside in memory, of the readers of messages and of the generator, one for each line of standard input,
+//! and an answer for each on standard output. The forms fail at the calls whose numbers a line says, take and give pieces of the length that
 //! it says, and alter the bytes that it says.
 //!
 //! It promises nothing: its answers are compared with `stdout`, which is written from what each form is said to do.
@@ -8,6 +8,7 @@
 mod arguments;
 mod door;
 mod files;
+mod generating;
 mod messages;
 mod sink;
 mod wire;
@@ -36,6 +37,7 @@ fn answer(alloc: Global, line: &Line) -> Result<String> {
         "memory_door" => door::memory_door(alloc, line),
         "request" => messages::request(alloc, line),
         "reply" => messages::reply(alloc, line),
+        "schedule" | "application" => generating::generated(alloc, line),
         other => bail!("no call {other}"),
     }
 }
