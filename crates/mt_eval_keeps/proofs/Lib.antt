@@ -1,0 +1,13 @@
+pub mod Between
+pub mod Building
+pub mod Changes
+pub mod Forms
+pub mod Frames
+pub mod Levels
+pub mod Operations
+pub mod Outside
+pub mod References
+pub mod Runs
+pub mod Statements
+pub mod Steps
+pub mod Whole
