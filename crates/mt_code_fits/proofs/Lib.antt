@@ -1,0 +1,4 @@
+mod Expressions
+mod Nodes
+mod Statements
+mod Tables
