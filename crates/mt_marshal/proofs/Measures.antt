@@ -359,7 +359,7 @@ all_from_test (d ∷ ds) h =
 pub all_fit : (store : List Cell) (vs : List Value) (ds : List Data) → snap store vs ≡ Ok ds → Lawful store → All (LawfulValue store) vs → list_all data_fits ds ≡ true
 all_fit store vs ds is = (given store vs ds is).1.fits
 
-data_fit : (store : List Cell) (vs : List Value) (ds : List Data) → snap store vs ≡ Ok ds → Lawful store → All (LawfulValue store) vs → All (λ d. IsTrue (data_fits d)) ds
+pub data_fit : (store : List Cell) (vs : List Value) (ds : List Data) → snap store vs ≡ Ok ds → Lawful store → All (LawfulValue store) vs → All (λ d. IsTrue (data_fits d)) ds
 data_fit store vs ds is lawful values = all_from_test ds (all_fit store vs ds is lawful values)
 
 within_limits : (store : List Cell) (vs : List Value) (ds : List Data) → snap store vs ≡ Ok ds → list_all has_characters ds ≡ true → Lawful store → All (LawfulValue store) vs → AreWithinLimits ds

@@ -1,7 +1,8 @@
--- The elaboration of a tilde: client code of its number and of the data of its dollars' values, as they are at this moment.
+-- What holds the data of values, as they are at this moment: client code, of the number of a tilde and of the values of its dollars, and a
+-- frame, of the name of a service and of its arguments. A job pays for the walk.
 use Rattle.std.specs.Prelude.{ℕ, ◌+◌, ◌-◌, ◌/◌, nat_le, List, [], ◌∷◌, length, if◌then◌else◌, Result, Ok, Err}
 use Rattle.mt_evaluation.specs.Host.{Added, Answering}
-use Rattle.mt_evaluation.specs.Host.Added.{code}
+use Rattle.mt_evaluation.specs.Host.Added.{code, frame}
 use Rattle.mt_evaluation.specs.declared.exit.Done.{Done}
 use Rattle.mt_evaluation.specs.declared.exit.Done.TheVariants as done
 use Rattle.mt_evaluation.specs.declared.exit.Stop.TheVariants as stop
@@ -10,6 +11,8 @@ use Rattle.mt_marshal.specs.Snapshot.{walked}
 use Rattle.mt_marshal.specs.declared.counts.Counts.{Counts}
 use Rattle.mt_marshal.specs.declared.refusal.Refused.{Refused}
 use Rattle.mt_marshal.specs.declared.refusal.Refused.TheVariants as refused
+use Rattle.mt_marshal.specs.declared.paying.Paid.{Paid}
+use Rattle.mt_marshal.specs.declared.paying.Paid.TheVariants as paid
 use Rattle.mt_tree.specs.declared.data.Data.{Data}
 use Rattle.mt_value.specs.declared.value.Value.{Value}
 use Rattle.mt_value.specs.declared.value.Value.TheVariants as value
@@ -28,21 +31,45 @@ cost (Ok r) = steps r.1.nodes r.1.bytes
 cost (Err (refused.Rule r nodes bytes)) = steps nodes bytes
 cost (Err refused.NoMemory) = 0
 
--- where the store has so many cells: the code goes behind them
-abbrev pub outcome_of : ℕ → Walked → Done
-outcome_of cells (Ok r) = done.Value (value.Code cells)
-outcome_of cells (Err (refused.Rule r nodes bytes)) = done.Stop (stop.Marshal (number_of r))
-outcome_of cells (Err refused.NoMemory) = done.Stop stop.Budget
+-- what a walk gives the job that pays for it
+abbrev pub paid_by : Walked → Paid
+paid_by (Ok r) = paid.Data r.0
+paid_by (Err (refused.Rule r nodes bytes)) = paid.Stopped (stop.Marshal (number_of r))
+paid_by (Err refused.NoMemory) = paid.Stopped stop.Budget
 
-abbrev pub added_of : ℕ → Walked → List Added
-added_of tilde (Ok r) = code (record { tilde = tilde; values = r.0 }) ∷ []
-added_of tilde (Err e) = []
+-- with the steps that are left: where the cost is more than these, the job stops and nothing is taken
+abbrev pub paid_for : Walked → ℕ → Paid × ℕ
+paid_for w budget = if nat_le (cost w) budget then (paid_by w, budget - cost w) else (paid.Stopped stop.Budget, budget)
 
--- as a host answers that stays as it is: where the cost is more than what is left, the job stops and nothing is taken
-abbrev pub answer : {H : Type 0} → ℕ → Walked → Answering H
-answer tilde w = λ host store budget.
-    if nat_le (cost w) budget then record { outcome = outcome_of (length store) w; added = added_of tilde w; host = host; budget = budget - cost w }
-    else record { outcome = done.Stop stop.Budget; added = []; host = host; budget = budget }
+-- what is made of the data: a cell behind those of the store, and the value that names it
+pub record Making : Type 0 where
+  pub cell : List Data → Added
+  pub value : ℕ → Value
 
-unfoldable pub elaborated : {H : Type 0} → ℕ → List Value → Answering H
-elaborated tilde values = λ host store budget. answer tilde (walked store values) host store budget
+abbrev pub code_of : ℕ → Making
+code_of tilde = record { cell = λ ds. code (record { tilde = tilde; values = ds }); value = λ at. value.Code at }
+
+abbrev pub frame_of : List ℕ → Making
+frame_of service = record { cell = λ ds. frame (record { service = service; arguments = ds }); value = λ at. value.Frame at }
+
+-- where the store has so many cells
+abbrev pub outcome_of : Making → ℕ → Paid → Done
+outcome_of m cells (paid.Data ds) = done.Value (m.value cells)
+outcome_of m cells (paid.Stopped w) = done.Stop w
+
+abbrev pub added_of : Making → Paid → List Added
+added_of m (paid.Data ds) = m.cell ds ∷ []
+added_of m (paid.Stopped w) = []
+
+-- as a host answers that stays as it is
+abbrev pub answer : {H : Type 0} → Making → Paid × ℕ → Answering H
+answer m p = λ host store budget. record { outcome = outcome_of m (length store) p.0; added = added_of m p.0; host = host; budget = p.1 }
+
+unfoldable pub made : {H : Type 0} → Making → List Value → Answering H
+made m values = λ host store budget. answer m (paid_for (walked store values) budget) host store budget
+
+abbrev pub elaborated : {H : Type 0} → ℕ → List Value → Answering H
+elaborated tilde = made (code_of tilde)
+
+abbrev pub framed : {H : Type 0} → List ℕ → List Value → Answering H
+framed service = made (frame_of service)

@@ -1,32 +1,15 @@
-ghost use Rattle.std.specs.Prelude.{◌≡◌, ◌-◌, nat_le, if◌then◌else◌, All, IfOk};
+ghost use Rattle.std.specs.Prelude.{◌≡◌, All, IfOk, IsTrue};
 ghost use Rattle.mt_evaluation.specs.Host.{answered, seen};
-ghost use Rattle.mt_marshal.specs.Elaboration.{elaborated, steps};
+ghost use Rattle.mt_marshal.specs.Elaboration.{elaborated, framed};
 ghost use Rattle.mt_marshal.specs.Lawful.{LawfulDone, Stays};
 ghost use Rattle.mt_value.specs.Lawful.{Lawful, LawfulValue};
+ghost use Rattle.mt_value.specs.Limits.{text_fits};
 
-use crate::counts::Counts;
-use crate::refusal::Refused;
-use crate::walk::{LEVELS, items};
-use mt_evaluation::{Budget, Done, Stop};
-use mt_tree::{Closure, NoMemory};
-use mt_value::{Cell, Store, Value};
+use crate::paying::{Paid, snapped};
+use mt_evaluation::{Budget, Done};
+use mt_tree::{Closure, NoMemory, Text};
+use mt_value::{Cell, FrameCell, Store, Value};
 use std::alloc::Global;
-
-/// The bytes that one step pays.
-const CHUNK: u64 = 256;
-
-/// Takes the steps of a walk where so many are left, and else none.
-fn pays(budget: &mut Budget, nodes: u64, bytes: u64) -> bool
-    ensures enough { result ≡ nat_le (steps nodes bytes) budget.old.left }
-    ensures left { budget.new.left ≡ (if nat_le (steps nodes bytes) budget.old.left then budget.old.left - steps nodes bytes else budget.old.left) }
-{
-    let chunks = bytes / CHUNK;
-    if chunks > budget.left || nodes > budget.left - chunks {
-        return false;
-    }
-    budget.left -= chunks + nodes;
-    true
-}
 
 /// Makes client code of a tilde, by its number in text order from 0, and of the values of its dollars: it holds their data, as the
 /// values are at this moment, in a new cell. The values of one tilde are walked once, and count together.
@@ -44,7 +27,6 @@ fn pays(budget: &mut Budget, nodes: u64, bytes: u64) -> bool
 ///
 /// # Errors
 /// `NoMemory`.
-#[tactic(auto, unfolding(crate::specs::Elaboration::elaborated))]
 pub fn elaborate(
     alloc: Global,
     tilde: u32,
@@ -55,31 +37,38 @@ pub fn elaborate(
     ensures meant { IfOk result (λ done. (done, store.new, tt {0}, budget.new.left) ≡ answered (elaborated tilde values.now (tt {0}) (seen store.old) budget.old.left) store.old budget.old.left) }
     ensures lawful { Lawful store.old → All (LawfulValue store.old) values.now → IfOk result (λ done. Stays LawfulDone store.old (done, store.new)) }
 {
-    let mut path = Vec::new(alloc);
-    let mut counts = Counts { nodes: 0, bytes: 0 };
-    match items(alloc, store, LEVELS, values, &mut path, &mut counts) {
-        Ok(data) => {
-            if !pays(budget, counts.nodes, counts.bytes) {
-                return Ok(Done::Stop(Stop::Budget));
-            }
-            let at = store.add(Cell::Code(Closure {
-                tilde,
-                values: data,
-            }))?;
+    let paid = snapped(alloc, store, values, budget)?;
+    match paid {
+        Paid::Stopped(stop) => Ok(Done::Stop(stop)),
+        Paid::Data(values) => {
+            let at = store.add(Cell::Code(Closure { tilde, values }))?;
             Ok(Done::Value(Value::Code(at)))
         }
-        Err(
-            Refused::Rule {
-                rule,
-                walked,
-                bytes,
-            },
-        ) => {
-            if !pays(budget, walked, bytes) {
-                return Ok(Done::Stop(Stop::Budget));
-            }
-            Ok(Done::Stop(Stop::Marshal(rule.number())))
+    }
+}
+
+/// Makes a frame of a service, by its name, and of its arguments: it holds their data, as the arguments are at this moment, in a new cell.
+/// The arguments of one frame are walked once, and count together. It takes the steps that [`elaborate`] takes, and answers as this does.
+///
+/// # Errors
+/// `NoMemory`.
+pub fn frame(
+    alloc: Global,
+    service: &Text,
+    arguments: &[Value],
+    store: &mut Store,
+    budget: &mut Budget,
+) -> Result<Done, NoMemory>
+    ensures meant { IfOk result (λ done. (done, store.new, tt {0}, budget.new.left) ≡ answered (framed service.now arguments.now (tt {0}) (seen store.old) budget.old.left) store.old budget.old.left) }
+    ensures lawful { Lawful store.old → IsTrue (text_fits service.now) → All (LawfulValue store.old) arguments.now → IfOk result (λ done. Stays LawfulDone store.old (done, store.new)) }
+{
+    let paid = snapped(alloc, store, arguments, budget)?;
+    match paid {
+        Paid::Stopped(stop) => Ok(Done::Stop(stop)),
+        Paid::Data(arguments) => {
+            let service = service.share()?;
+            let at = store.add(Cell::Frame(FrameCell { service, arguments }))?;
+            Ok(Done::Value(Value::Frame(at)))
         }
-        Err(Refused::NoMemory) => Err(NoMemory),
     }
 }
