@@ -9,10 +9,10 @@ use Rattle.mt_builtins.specs.Making.{outcome_of, added_of, ended, ended_for, ans
 use Rattle.mt_builtins.specs.declared.made.Made.{Made}
 use Rattle.mt_builtins.specs.declared.methods.MethodName.{MethodName}
 use Rattle.mt_builtins.specs.declared.methods.MethodName.TheVariants as name
-use Rattle.mt_evaluation.specs.Host.{Answer, added_cell, answered, seen, seen_cell}
-use Rattle.mt_evaluation.specs.declared.exit.Done.{Done}
-use Rattle.mt_evaluation.specs.declared.exit.Done.TheVariants as done
-use Rattle.mt_evaluation.specs.declared.exit.Stop.TheVariants as stop
+use Rattle.mt_eval_meaning.specs.Host.{Answer, added_cell, answered, seen, seen_cell}
+use Rattle.mt_eval_meaning.specs.declared.exit.Done.{Done}
+use Rattle.mt_eval_meaning.specs.declared.exit.Done.TheVariants as done
+use Rattle.mt_eval_meaning.specs.declared.exit.Stop.TheVariants as stop
 use Rattle.mt_ops.specs.declared.error.ErrorKind.{ErrorKind}
 use Rattle.mt_tree.specs.declared.fault.NoMemory.{NoMemory}
 use Rattle.mt_value.specs.declared.cell.Cell.{Cell}

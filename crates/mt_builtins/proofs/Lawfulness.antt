@@ -16,8 +16,8 @@ use Rattle.mt_builtins.specs.declared.made.Made.{Made}
 use Rattle.mt_builtins.specs.declared.made.Made.TheVariants as made
 use Rattle.mt_builtins.specs.declared.methods.MethodName.{MethodName}
 use Rattle.mt_builtins.specs.declared.methods.MethodName.TheVariants as name
-use Rattle.mt_evaluation.specs.declared.exit.Done.{Done}
-use Rattle.mt_methods.specs.Arguments.{given}
+use Rattle.mt_eval_meaning.specs.declared.exit.Done.{Done}
+use Rattle.mt_ops_methods.specs.Arguments.{given}
 use Rattle.mt_ops.proofs.Lawfulness.{settled_lawful}
 use Rattle.mt_ops.specs.Errors.{text_property}
 use Rattle.mt_ops.specs.Texts.{join_text}

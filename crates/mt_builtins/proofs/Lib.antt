@@ -4,3 +4,4 @@ mod Making
 mod Names
 mod Numerals
 mod Units
+mod Table

@@ -3,7 +3,7 @@ use Rattle.std.proofs.Common.{◌≡◌, ℕ, ◌-◌, nat_le, Bool, true, false
 use Rattle.std.specs.Prelude.{Result, Ok, Err, IfOk, if◌then◌else◌}
 use Rattle.mt_builtins.specs.Making.{ended, ended_for}
 use Rattle.mt_builtins.specs.declared.made.Made.{Made}
-use Rattle.mt_evaluation.specs.declared.exit.Done.{Done}
+use Rattle.mt_eval_meaning.specs.declared.exit.Done.{Done}
 use Rattle.mt_ops.specs.declared.error.ErrorKind.{ErrorKind}
 use Rattle.mt_tree.specs.declared.fault.NoMemory.{NoMemory}
 use Rattle.mt_value.specs.declared.cell.Cell.{Cell}

@@ -3,3 +3,4 @@ pub mod Lawful
 pub mod Lines
 pub mod Making
 pub mod Numbers
+pub mod Plain

@@ -2,11 +2,11 @@
 use Rattle.std.specs.Prelude.{ℕ, ◌-◌, nat_le, List, [], ◌∷◌, ◌++◌, length, map, codes, if◌then◌else◌, Result, Ok, Err}
 use Rattle.mt_builtins.specs.declared.made.Made.{Made}
 use Rattle.mt_builtins.specs.declared.made.Made.TheVariants as made
-use Rattle.mt_evaluation.specs.Host.{Added, Answering, added_cell}
-use Rattle.mt_evaluation.specs.Host.Added.{array, object}
-use Rattle.mt_evaluation.specs.declared.exit.Done.{Done}
-use Rattle.mt_evaluation.specs.declared.exit.Done.TheVariants as done
-use Rattle.mt_evaluation.specs.declared.exit.Stop.TheVariants as stop
+use Rattle.mt_eval_meaning.specs.Host.{Added, Answering, added_cell}
+use Rattle.mt_eval_meaning.specs.Host.Added.{array, object}
+use Rattle.mt_eval_meaning.specs.declared.exit.Done.{Done}
+use Rattle.mt_eval_meaning.specs.declared.exit.Done.TheVariants as done
+use Rattle.mt_eval_meaning.specs.declared.exit.Stop.TheVariants as stop
 use Rattle.mt_ops.specs.Errors.{error_name, error_message, text_property}
 use Rattle.mt_ops.specs.declared.error.ErrorKind.{ErrorKind}
 use Rattle.mt_value.specs.declared.cell.Cell.{Cell}

@@ -10,9 +10,14 @@
 //! [`refuse`] and [`no_property`] throw what a host throws in place of an answer. [`text_argument`] and [`append_line`] are what
 //! `log` and `alert` share. The hosts of both tiers stand on this crate; `proofs/Hosts.antt` has the laws that lead from its
 //! contracts to that of a host.
+//!
+//! [`PlainHost`] is a host of the evaluator with these builtins and `log`, and nothing else: no services, no client code, no HTML. It keeps
+//! the lines of its log. What each of its calls means is a table in `specs/Plain.antt`, by which an evaluation over this host is known in
+//! full, log and store included.
 #![tactic(auto)]
 
 mod functions;
+mod host;
 mod line;
 mod made;
 mod methods;
@@ -20,6 +25,7 @@ mod number;
 mod refusal;
 
 pub use functions::{native, text_argument, texts_made_cost_nothing};
+pub use host::PlainHost;
 pub use line::append_line;
 pub use methods::method;
 pub use refusal::{no_property, refuse};

@@ -5,7 +5,7 @@ ghost use Rattle.mt_ops.specs.Errors.{Answers};
 ghost use Rattle.mt_ops.specs.declared.error.ErrorKind.{ErrorKind as ErrorKind'};
 
 use crate::refusal::refuse;
-use mt_evaluation::Done;
+use mt_eval_meaning::Done;
 use mt_ops::Refusal;
 use mt_tree::{Buffer, NoMemory};
 use mt_value::{Cell, Property, Store, Value};

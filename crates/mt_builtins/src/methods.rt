@@ -10,7 +10,7 @@ ghost use Rattle.mt_value.specs.Names.{is_same};
 
 use crate::made::{Made, finish};
 use crate::refusal::bad_argument;
-use mt_evaluation::{Budget, Done, Stop};
+use mt_eval_meaning::{Budget, Done, Stop};
 use mt_ops::{ErrorKind, Refusal};
 use mt_tree::{Buffer, NoMemory, Text};
 use mt_value::{Cell, Native, Property, Store, Value};

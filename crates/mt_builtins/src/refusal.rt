@@ -4,7 +4,7 @@ ghost use Rattle.mt_builtins.specs.Making.{ended};
 ghost use Rattle.mt_ops.specs.Texts.{is_plain};
 ghost use Rattle.mt_value.specs.Lawful.{Lawful};
 
-use mt_evaluation::Done;
+use mt_eval_meaning::Done;
 use mt_ops::{ErrorKind, Outcome, plain, throw};
 use mt_tree::{NoMemory, Text};
 use mt_value::Store;

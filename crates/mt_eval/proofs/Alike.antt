@@ -1,23 +1,23 @@
 -- A run by names that ends as a run on slots, by how the job ended.
 use Rattle.std.proofs.Common.{◌≡◌, ℕ, List, [], Result, Ok, Err, IfOk, subst}
-use Rattle.mt_agreement.proofs.Whole.{called_law, client_law, start_law}
-use Rattle.mt_agreement.specs.Agreement.{EndsAs, StartsAs, without_functions}
-use Rattle.mt_agreement.specs.Code.{ClientCodeStands, FileStands, TableStands}
-use Rattle.mt_agreement.specs.States.{Numbered, keeping_whole}
-use Rattle.mt_agreement.specs.Stores.{StateStands}
+use Rattle.mt_eval_agreement.proofs.Whole.{called_law, client_law, start_law}
+use Rattle.mt_eval_meaning.specs.Agreement.{EndsAs, StartsAs, without_functions}
+use Rattle.mt_eval_meaning.specs.Code.{ClientCodeStands, FileStands, TableStands}
+use Rattle.mt_eval_meaning.specs.States.{Numbered, keeping_whole}
+use Rattle.mt_eval_meaning.specs.Stores.{StateStands}
 use Rattle.mt_eval.specs.Jobs.{Ends, state}
 use Rattle.mt_eval.specs.ByNames.{EndsByNames, StartsByNames}
-use Rattle.mt_evaluation.specs.Entering.{Named}
-use Rattle.mt_evaluation.specs.Evaluation.{called, client_code, file}
-use Rattle.mt_evaluation.specs.Host.{Meaning, done_ran}
-use Rattle.mt_evaluation.specs.Names.{Environment, Surroundings}
-use Rattle.mt_evaluation.specs.Runs.{Ran}
-use Rattle.mt_evaluation.specs.declared.exit.Done.{Done}
-use Rattle.mt_evaluation.specs.declared.exit.Done.TheVariants as done
-use Rattle.mt_evaluation.specs.declared.state.State.{State}
-use Rattle.mt_slots.specs.Slots as slots
-use Rattle.mt_slots.specs.declared.function.Function.{Function}
-use Rattle.mt_slots.specs.declared.function.Unit.{Unit as Unit'}
+use Rattle.mt_eval_meaning.specs.Entering.{Named}
+use Rattle.mt_eval_meaning.specs.Evaluation.{called, client_code, file}
+use Rattle.mt_eval_meaning.specs.Host.{Meaning, done_ran}
+use Rattle.mt_eval_meaning.specs.Names.{Environment, Surroundings}
+use Rattle.mt_eval_meaning.specs.Runs.{Ran}
+use Rattle.mt_eval_meaning.specs.declared.exit.Done.{Done}
+use Rattle.mt_eval_meaning.specs.declared.exit.Done.TheVariants as done
+use Rattle.mt_eval_meaning.specs.declared.state.State.{State}
+use Rattle.mt_eval_meaning.specs.Slots as slots
+use Rattle.mt_eval_meaning.specs.declared.function.Function.{Function}
+use Rattle.mt_eval_meaning.specs.declared.function.Unit.{Unit as Unit'}
 use Rattle.mt_syntax.specs.declared.program.Tilde.{Tilde}
 use Rattle.mt_syntax.specs.declared.tree.Stmt.{Stmt}
 use Rattle.mt_tree.specs.declared.fault.NoMemory.{NoMemory}

@@ -1,12 +1,12 @@
 -- How an evaluation ends, by its result.
 use Rattle.std.proofs.Common.{◌≡◌, Result, subst}
-use Rattle.mt_evaluation.specs.Host.{done_ran}
-use Rattle.mt_evaluation.specs.Runs.{Ran, Evals}
-use Rattle.mt_evaluation.specs.declared.exit.Done.{Done}
-use Rattle.mt_evaluation.specs.declared.exit.Done.TheVariants as done
-use Rattle.mt_evaluation.specs.declared.exit.Exit.{Exit}
-use Rattle.mt_evaluation.specs.declared.state.State.{State}
-use Rattle.mt_steps.specs.Outcomes.{value_or_exit}
+use Rattle.mt_eval_meaning.specs.Host.{done_ran}
+use Rattle.mt_eval_meaning.specs.Runs.{Ran, Evals}
+use Rattle.mt_eval_meaning.specs.declared.exit.Done.{Done}
+use Rattle.mt_eval_meaning.specs.declared.exit.Done.TheVariants as done
+use Rattle.mt_eval_meaning.specs.declared.exit.Exit.{Exit}
+use Rattle.mt_eval_meaning.specs.declared.state.State.{State}
+use Rattle.mt_eval_steps.specs.Outcomes.{value_or_exit}
 use Rattle.mt_value.specs.declared.value.Value.{Value}
 
 ends : {H : Type 0} (ran : Ran (State × H) Value) (d : Done) (s : State × H) → Evals ran (value_or_exit d) s → ran ≡ done_ran d s

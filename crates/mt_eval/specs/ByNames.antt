@@ -1,17 +1,17 @@
 -- How a whole job ends by names, where it ended on slots.
 use Rattle.std.specs.Prelude.{◌≡◌, ℕ, List}
-use Rattle.mt_agreement.specs.Agreement.{start_environment}
-use Rattle.mt_agreement.specs.States.{Numbered}
-use Rattle.mt_agreement.specs.Stores.{StateStands}
+use Rattle.mt_eval_meaning.specs.Agreement.{start_environment}
+use Rattle.mt_eval_meaning.specs.States.{Numbered}
+use Rattle.mt_eval_meaning.specs.Stores.{StateStands}
 use Rattle.mt_eval.specs.Jobs.{state}
-use Rattle.mt_evaluation.specs.Entering.{Named}
-use Rattle.mt_evaluation.specs.Host.{done_ran}
-use Rattle.mt_evaluation.specs.Names.{Environment}
-use Rattle.mt_evaluation.specs.Runs.{Ran, gives, leaves}
-use Rattle.mt_evaluation.specs.declared.exit.Done.{Done}
-use Rattle.mt_evaluation.specs.declared.exit.Done.TheVariants as done
-use Rattle.mt_evaluation.specs.declared.exit.Exit.TheVariants as exit
-use Rattle.mt_evaluation.specs.declared.state.State.{State}
+use Rattle.mt_eval_meaning.specs.Entering.{Named}
+use Rattle.mt_eval_meaning.specs.Host.{done_ran}
+use Rattle.mt_eval_meaning.specs.Names.{Environment}
+use Rattle.mt_eval_meaning.specs.Runs.{Ran, gives, leaves}
+use Rattle.mt_eval_meaning.specs.declared.exit.Done.{Done}
+use Rattle.mt_eval_meaning.specs.declared.exit.Done.TheVariants as done
+use Rattle.mt_eval_meaning.specs.declared.exit.Exit.TheVariants as exit
+use Rattle.mt_eval_meaning.specs.declared.state.State.{State}
 use Rattle.mt_syntax.specs.declared.program.Tilde.{Tilde}
 use Rattle.mt_syntax.specs.declared.tree.Stmt.{Stmt}
 use Rattle.mt_value.specs.Globals.{Variables}

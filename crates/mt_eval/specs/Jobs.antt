@@ -1,9 +1,9 @@
 -- How a whole job ends, with what it leaves apart.
 use Rattle.std.specs.Prelude.{◌≡◌, ℕ, List}
-use Rattle.mt_evaluation.specs.Host.{done_ran}
-use Rattle.mt_evaluation.specs.Runs.{Ran}
-use Rattle.mt_evaluation.specs.declared.exit.Done.{Done}
-use Rattle.mt_evaluation.specs.declared.state.State.{State}
+use Rattle.mt_eval_meaning.specs.Host.{done_ran}
+use Rattle.mt_eval_meaning.specs.Runs.{Ran}
+use Rattle.mt_eval_meaning.specs.declared.exit.Done.{Done}
+use Rattle.mt_eval_meaning.specs.declared.state.State.{State}
 use Rattle.mt_value.specs.Globals.{Variables}
 use Rattle.mt_value.specs.declared.cell.Cell.{Cell}
 use Rattle.mt_value.specs.declared.value.Value.{Value}

@@ -1,14 +1,13 @@
 //! The levels of an evaluation, each over the one below.
 
-ghost use Rattle.mt_evaluation.specs.Runs.{Evals};
-ghost use Rattle.mt_slots.specs.Slots as spec;
-ghost use Rattle.mt_slots.specs.Slots.{parts};
+ghost use Rattle.mt_eval_meaning.specs.Runs.{Evals};
+ghost use Rattle.mt_eval_meaning.specs.Slots as spec;
+ghost use Rattle.mt_eval_meaning.specs.Slots.{parts};
 
-use mt_evaluation::{Completion, Exit, Host, State, Stop};
+use mt_eval_meaning::{Completion, Exit, Expr, Function, Host, State, Stmt, Stop, Unit};
+use mt_eval_steps::enter_unit;
 use mt_evaluator::Evaluator;
 use mt_expressions::Expressions;
-use mt_frames::enter_unit;
-use mt_slots::{Expr, Function, Stmt, Unit};
 use mt_statements::Statements;
 use mt_tree::{CALL_LIMIT, DEPTH_LIMIT};
 use mt_value::{Address, Value};
@@ -78,7 +77,7 @@ fn stmt_to<H: Host>(
 ///
 /// # Errors
 /// As the code says, and `NoMemory`.
-#[tactic(auto, unfolding(mt_slots::specs::Slots::unit))]
+#[tactic(auto, unfolding(mt_eval_meaning::specs::Slots::unit))]
 pub fn run_unit<H: Host>(
     alloc: Global,
     functions: &[Function],
@@ -106,7 +105,7 @@ pub fn run_unit<H: Host>(
 ///
 /// # Errors
 /// As the code says, and `NoMemory`.
-#[tactic(auto, unfolding(mt_slots::specs::Slots::called))]
+#[tactic(auto, unfolding(mt_eval_meaning::specs::Slots::called))]
 pub fn run_call<H: Host>(
     alloc: Global,
     functions: &[Function],

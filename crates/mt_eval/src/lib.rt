@@ -1,6 +1,6 @@
 //! The evaluation of code whose names are resolved, on both tiers.
 //!
-//! [`evaluate`] runs the code of a tier, and [`call`] begins a job with the call of a value. Each does what its definition in `mt_slots`
+//! [`evaluate`] runs the code of a tier, and [`call`] begins a job with the call of a value. Each does what its definition in `mt_eval_meaning`
 //! says, for every host: the same ending, store, global variables, host and budget. Or each answers `NoMemory`. At most 48 calls of
 //! functions are in progress at a time.
 //!

@@ -5,14 +5,14 @@ use Rattle.mt_eval.specs.Jobs.{Ends, state}
 use Rattle.mt_eval_jobs.specs.Kept.{EndsKept}
 use Rattle.mt_eval_keeps.proofs.Whole.{called_kept, unit_kept}
 use Rattle.mt_eval_keeps.specs.Kept.{Fit, IsFit, IsLawful, RunKept, Tests, UnitFits}
-use Rattle.mt_evaluation.specs.Host.{Meaning, done_ran}
-use Rattle.mt_evaluation.specs.Runs.{Ran}
-use Rattle.mt_evaluation.specs.declared.exit.Done.{Done}
-use Rattle.mt_evaluation.specs.declared.exit.Done.TheVariants as done
-use Rattle.mt_evaluation.specs.declared.state.State.{State}
-use Rattle.mt_slots.specs.Slots as slots
-use Rattle.mt_slots.specs.declared.function.Function.{Function}
-use Rattle.mt_slots.specs.declared.function.Unit.{Unit as Unit'}
+use Rattle.mt_eval_meaning.specs.Host.{Meaning, done_ran}
+use Rattle.mt_eval_meaning.specs.Runs.{Ran}
+use Rattle.mt_eval_meaning.specs.declared.exit.Done.{Done}
+use Rattle.mt_eval_meaning.specs.declared.exit.Done.TheVariants as done
+use Rattle.mt_eval_meaning.specs.declared.state.State.{State}
+use Rattle.mt_eval_meaning.specs.Slots as slots
+use Rattle.mt_eval_meaning.specs.declared.function.Function.{Function}
+use Rattle.mt_eval_meaning.specs.declared.function.Unit.{Unit as Unit'}
 use Rattle.mt_tree.specs.declared.fault.NoMemory.{NoMemory}
 use Rattle.mt_value.specs.Globals.{Variables}
 use Rattle.mt_value.specs.declared.cell.Cell.{Cell}

@@ -6,24 +6,23 @@
 #![tactic(auto)]
 
 ghost use Rattle.std.specs.Prelude.{◌≡◌, ℕ, List, [], All, IfOk};
-ghost use Rattle.mt_agreement.specs.Agreement.{without_functions};
-ghost use Rattle.mt_agreement.specs.Code.{ClientCodeStands, FileStands, TableStands};
-ghost use Rattle.mt_agreement.specs.States.{Numbered, keeping_whole};
-ghost use Rattle.mt_agreement.specs.Stores.{StateStands};
+ghost use Rattle.mt_eval_meaning.specs.Agreement.{without_functions};
+ghost use Rattle.mt_eval_meaning.specs.Code.{ClientCodeStands, FileStands, TableStands};
+ghost use Rattle.mt_eval_meaning.specs.States.{Numbered, keeping_whole};
+ghost use Rattle.mt_eval_meaning.specs.Stores.{StateStands};
 ghost use Rattle.mt_eval.specs.ByNames.{EndsByNames, StartsByNames};
 ghost use Rattle.mt_eval.specs.Jobs as jobs;
 ghost use Rattle.mt_eval.specs.Jobs.{Ends};
 ghost use Rattle.mt_eval_jobs.specs.Kept.{EndsKept};
 ghost use Rattle.mt_eval_keeps.specs.Kept.{Fit, IsFit, IsLawful, Tests, UnitFits};
-ghost use Rattle.mt_evaluation.specs.Entering.{Named};
-ghost use Rattle.mt_evaluation.specs.Evaluation.{called, client_code, file};
-ghost use Rattle.mt_evaluation.specs.Names.{Surroundings};
-ghost use Rattle.mt_evaluation.specs.declared.state.State.{State};
-ghost use Rattle.mt_slots.specs.Slots as spec;
+ghost use Rattle.mt_eval_meaning.specs.Entering.{Named};
+ghost use Rattle.mt_eval_meaning.specs.Evaluation.{called, client_code, file};
+ghost use Rattle.mt_eval_meaning.specs.Names.{Surroundings};
+ghost use Rattle.mt_eval_meaning.specs.declared.state.State.{State};
+ghost use Rattle.mt_eval_meaning.specs.Slots as spec;
 ghost use Rattle.mt_syntax.specs.declared.tree.Stmt.{Stmt};
 
-use mt_evaluation::{Budget, Done, Host};
-use mt_slots::{Function, Unit};
+use mt_eval_meaning::{Budget, Done, Function, Host, Unit};
 use mt_tree::NoMemory;
 use mt_value::{Globals, Store, Value};
 use std::alloc::Global;

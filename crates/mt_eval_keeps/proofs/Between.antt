@@ -10,10 +10,10 @@ use Rattle.mt_eval_keeps.proofs.Building.{build_stays}
 use Rattle.mt_eval_keeps.proofs.Operations.{all_at}
 use Rattle.mt_eval_keeps.proofs.Runs.{fits_kept, own_cell_kept, same_cells}
 use Rattle.mt_eval_keeps.proofs.Steps.{added_grew, added_names, good_store, store_grew}
-use Rattle.mt_evaluation.specs.Building.{build}
-use Rattle.mt_evaluation.specs.Host.{Meaning}
-use Rattle.mt_evaluation.specs.declared.state.State.{State}
-use Rattle.mt_slots.specs.declared.function.Function.{Function}
+use Rattle.mt_eval_meaning.specs.Building.{build}
+use Rattle.mt_eval_meaning.specs.Host.{Meaning}
+use Rattle.mt_eval_meaning.specs.declared.state.State.{State}
+use Rattle.mt_eval_meaning.specs.declared.function.Function.{Function}
 use Rattle.mt_syntax.specs.DataLimits.{nodes_of_data}
 use Rattle.mt_tree.specs.declared.data.Data.{Data}
 use Rattle.mt_value.proofs.Laws.{lawful_added}

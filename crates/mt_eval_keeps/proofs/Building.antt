@@ -9,10 +9,10 @@ use Rattle.std.proofs.lemmas.List.Elements.{All-cons, All-nil, All-push, All-wea
 use Rattle.mt_eval_keeps.specs.Growth.{Owning, GrewTo, OwnValue, FitsCell}
 use Rattle.mt_eval_keeps.proofs.Runs.{same_cells, cells_then, Runs, runs_bind, good_less, Value'}
 use Rattle.mt_eval_keeps.proofs.Steps.{Pays, added_grew, added_names, good_store, store_grew, runs_spend}
-use Rattle.mt_evaluation.specs.Building.{Built, build, built_plain, built_all, built_array, built_object, data_step, entry_step}
-use Rattle.mt_evaluation.specs.Expressions as forms
-use Rattle.mt_evaluation.specs.State.{on_state}
-use Rattle.mt_evaluation.specs.declared.state.State.{State}
+use Rattle.mt_eval_meaning.specs.Building.{Built, build, built_plain, built_all, built_array, built_object, data_step, entry_step}
+use Rattle.mt_eval_meaning.specs.Expressions as forms
+use Rattle.mt_eval_meaning.specs.State.{on_state}
+use Rattle.mt_eval_meaning.specs.declared.state.State.{State}
 use Rattle.mt_syntax.specs.DataLimits.{entry_value_step, nodes_of_data, nodes_of_entry, nodes_step}
 use Rattle.mt_tree.specs.declared.data.Data.{Data, roll-Data}
 use Rattle.mt_tree.specs.declared.data.Data.TheFolds.{ind-Data, map-Data, map-Entry, fold-Entry, fold-roll-Data, fold-roll-Entry}

@@ -9,23 +9,23 @@ use Rattle.std.proofs.lemmas.List.Elements.{All-push, All-set, All-take, All-dro
 use Rattle.mt_eval_keeps.specs.Growth.{Owning, OwnValue, FitsCell}
 use Rattle.mt_eval_keeps.proofs.Operations.{all_at}
 use Rattle.mt_eval_keeps.proofs.Steps.{Leaves, OwnAnswer, settled_leaves, added_grew, put_grew}
-use Rattle.mt_methods.proofs.Lawfulness.{text_lawful, part_at_lawful, made_lawful, value_at_lawful, pushed_lawful, popped_lawful, given_lawful}
-use Rattle.mt_methods.specs.Arguments.{given, named, range, place_number, word}
-use Rattle.mt_methods.specs.Arrays as array
-use Rattle.mt_methods.specs.Joining.{is_shown, joined as joined_items, join}
-use Rattle.mt_methods.specs.Methods.{method}
-use Rattle.mt_methods.specs.Texts as text
-use Rattle.mt_methods.specs.declared.name.MethodName.{MethodName}
-use Rattle.mt_methods.specs.declared.name.MethodName.TheVariants as name
+use Rattle.mt_ops_methods.proofs.Lawfulness.{text_lawful, part_at_lawful, made_lawful, value_at_lawful, pushed_lawful, popped_lawful, given_lawful}
+use Rattle.mt_ops_methods.specs.Arguments.{given, named, range, place_number, word}
+use Rattle.mt_ops_methods.specs.Arrays as array
+use Rattle.mt_ops_methods.specs.Joining.{is_shown, joined as joined_items, join}
+use Rattle.mt_ops_methods.specs.Methods.{method}
+use Rattle.mt_ops_methods.specs.Texts as text
+use Rattle.mt_ops_methods.specs.declared.name.MethodName.{MethodName}
+use Rattle.mt_ops_methods.specs.declared.name.MethodName.TheVariants as name
 use Rattle.mt_ops.specs.Errors.{settled}
 use Rattle.mt_ops.specs.Lawful.{StaysLawful, LawfulAnswer}
 use Rattle.mt_ops.specs.declared.error.ErrorKind.{ErrorKind}
 use Rattle.mt_ops.specs.declared.error.ErrorKind.TheVariants as error
-use Rattle.mt_properties.proofs.Lawfulness.{changed_lawful}
-use Rattle.mt_properties.specs.Arrays.{item_written, array_written}
-use Rattle.mt_properties.specs.Keys.{key_text}
-use Rattle.mt_properties.specs.Objects.{name_of, place_of, put_at, named_written, object_written}
-use Rattle.mt_properties.specs.Properties.{array_cell, object_cell, cell_written, with_cell, store_written, answered, written}
+use Rattle.mt_ops_properties.proofs.Lawfulness.{changed_lawful}
+use Rattle.mt_ops_properties.specs.Arrays.{item_written, array_written}
+use Rattle.mt_ops_properties.specs.Keys.{key_text}
+use Rattle.mt_ops_properties.specs.Objects.{name_of, place_of, put_at, named_written, object_written}
+use Rattle.mt_ops_properties.specs.Properties.{array_cell, object_cell, cell_written, with_cell, store_written, answered, written}
 use Rattle.mt_tree.specs.Units.{cut, find}
 use Rattle.mt_tree.specs.Text.{units_of}
 use Rattle.mt_value.proofs.Laws.{value_kept}

@@ -7,18 +7,18 @@ use Rattle.mt_eval_keeps.proofs.Changes.{Grown, object_grown}
 use Rattle.mt_eval_keeps.proofs.Operations.{all_at, own_binary, own_unary}
 use Rattle.mt_eval_keeps.proofs.Runs.{further, fits_kept, Claim, Runs, Still, still_runs, runs_bind, runs_pure, runs_less, Value'}
 use Rattle.mt_eval_keeps.proofs.Steps.{Stable, Pays, pays_later, runs_spend, runs_add, runs_all, runs_or_throw, still_settled, added_grew}
-use Rattle.mt_evaluation.specs.Expressions as forms
-use Rattle.mt_evaluation.specs.Runs.{gives, and_then}
-use Rattle.mt_evaluation.specs.State.{Eval, spend, operate, on_state}
-use Rattle.mt_evaluation.specs.declared.state.State.{State}
+use Rattle.mt_eval_meaning.specs.Expressions as forms
+use Rattle.mt_eval_meaning.specs.Runs.{gives, and_then}
+use Rattle.mt_eval_meaning.specs.State.{Eval, spend, operate, on_state}
+use Rattle.mt_eval_meaning.specs.declared.state.State.{State}
 use Rattle.mt_ops.proofs.Lawfulness.{binary_lawful, unary_lawful}
 use Rattle.mt_ops.specs.Errors.{settled}
 use Rattle.mt_ops.specs.Operators.{binary_of, unary_of, is_truthy}
 use Rattle.mt_ops.specs.declared.error.ErrorKind.{ErrorKind}
-use Rattle.mt_properties.proofs.Lawfulness.{changed_lawful}
-use Rattle.mt_properties.specs.Objects.{object_written}
-use Rattle.mt_properties.specs.Properties.{object_cell}
-use Rattle.mt_properties.specs.Costs.{steps, binary_units, unary_units}
+use Rattle.mt_ops_properties.proofs.Lawfulness.{changed_lawful}
+use Rattle.mt_ops_properties.specs.Objects.{object_written}
+use Rattle.mt_ops_properties.specs.Properties.{object_cell}
+use Rattle.mt_ops_properties.specs.Costs.{steps, binary_units, unary_units}
 use Rattle.mt_tree.specs.declared.operators.Binary.{Binary}
 use Rattle.mt_tree.specs.declared.operators.Unary.{Unary}
 use Rattle.mt_value.proofs.Laws.{lawful_added, value_kept, values_kept}

@@ -7,16 +7,16 @@ use Rattle.mt_eval_keeps.proofs.Operations.{all_at}
 use Rattle.mt_eval_keeps.proofs.References.{still_declare, still_declare_global}
 use Rattle.mt_eval_keeps.proofs.Runs.{further, fits_kept, Claim, Runs, still_runs, runs_pure}
 use Rattle.mt_eval_keeps.proofs.Steps.{Any, runs_add, runs_state_bind, added_grew}
-use Rattle.mt_evaluation.specs.Entering.{first as first_of, rest as rest_of}
-use Rattle.mt_evaluation.specs.References.{declare, declare_global}
-use Rattle.mt_evaluation.specs.Runs.{each}
-use Rattle.mt_evaluation.specs.State.{add_cell, on_state}
-use Rattle.mt_evaluation.specs.declared.state.State.{State}
-use Rattle.mt_slots.specs.Frames.{Frame, captured, address_in, captures_of, capture, referent, grown, with_parameters, with_own, define, define_all, enter_body, enter_function, enter_unit}
-use Rattle.mt_slots.specs.declared.function.Body.{Body}
-use Rattle.mt_slots.specs.declared.function.Function.{Function}
-use Rattle.mt_slots.specs.declared.function.Hoisted.{Hoisted}
-use Rattle.mt_slots.specs.declared.function.Unit.{Unit as Unit'}
+use Rattle.mt_eval_meaning.specs.Entering.{first as first_of, rest as rest_of}
+use Rattle.mt_eval_meaning.specs.References.{declare, declare_global}
+use Rattle.mt_eval_meaning.specs.Runs.{each}
+use Rattle.mt_eval_meaning.specs.State.{add_cell, on_state}
+use Rattle.mt_eval_meaning.specs.declared.state.State.{State}
+use Rattle.mt_eval_meaning.specs.Frames.{Frame, captured, address_in, captures_of, capture, referent, grown, with_parameters, with_own, define, define_all, enter_body, enter_function, enter_unit}
+use Rattle.mt_eval_meaning.specs.declared.function.Body.{Body}
+use Rattle.mt_eval_meaning.specs.declared.function.Function.{Function}
+use Rattle.mt_eval_meaning.specs.declared.function.Hoisted.{Hoisted}
+use Rattle.mt_eval_meaning.specs.declared.function.Unit.{Unit as Unit'}
 use Rattle.mt_value.proofs.Laws.{value_kept}
 use Rattle.mt_value.specs.Lawful.{Kind, Names, LawfulValue}
 use Rattle.mt_value.specs.declared.cell.Cell.{Cell}

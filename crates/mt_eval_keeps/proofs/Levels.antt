@@ -19,34 +19,34 @@ use Rattle.mt_eval_keeps.proofs.Runs.{same, further, fits_kept, Claim, After, le
 use Rattle.mt_eval_keeps.proofs.Statements as statement
 use Rattle.mt_eval_keeps.proofs.Statements.{FitsCompletion}
 use Rattle.mt_eval_keeps.proofs.Steps.{Any, Pays, Holds, runs_spend, runs_throw, runs_each}
-use Rattle.mt_evaluation.specs.Expressions as forms
+use Rattle.mt_eval_meaning.specs.Expressions as forms
 use Rattle.mt_tree.specs.Limits.{call_limit, depth_limit}
-use Rattle.mt_evaluation.specs.Host.{Meaning}
-use Rattle.mt_evaluation.specs.Statements.{returned}
-use Rattle.mt_evaluation.specs.Runs.{gives, leaves, and_then}
-use Rattle.mt_evaluation.specs.State.{Eval}
-use Rattle.mt_evaluation.specs.declared.completion.Completion.{Completion}
-use Rattle.mt_evaluation.specs.declared.completion.Completion.TheVariants as completion
-use Rattle.mt_evaluation.specs.declared.exit.Exit.TheVariants as exit
-use Rattle.mt_evaluation.specs.declared.exit.Stop.TheVariants as stop
-use Rattle.mt_evaluation.specs.declared.reference.Reference.TheVariants as reference
-use Rattle.mt_evaluation.specs.declared.state.State.{State}
+use Rattle.mt_eval_meaning.specs.Host.{Meaning}
+use Rattle.mt_eval_meaning.specs.Statements.{returned}
+use Rattle.mt_eval_meaning.specs.Runs.{gives, leaves, and_then}
+use Rattle.mt_eval_meaning.specs.State.{Eval}
+use Rattle.mt_eval_meaning.specs.declared.completion.Completion.{Completion}
+use Rattle.mt_eval_meaning.specs.declared.completion.Completion.TheVariants as completion
+use Rattle.mt_eval_meaning.specs.declared.exit.Exit.TheVariants as exit
+use Rattle.mt_eval_meaning.specs.declared.exit.Stop.TheVariants as stop
+use Rattle.mt_eval_meaning.specs.declared.reference.Reference.TheVariants as reference
+use Rattle.mt_eval_meaning.specs.declared.state.State.{State}
 use Rattle.mt_ops.specs.declared.error.ErrorKind.TheVariants as error
-use Rattle.mt_slots.specs.Frames.{Frame, referent}
-use Rattle.mt_slots.specs.Slots as slots
-use Rattle.mt_slots.specs.Slots.{Parts, ExprLayer, PieceLayer, StmtLayer}
-use Rattle.mt_slots.specs.declared.expr.Attribute.{Attribute, out-Attribute}
-use Rattle.mt_slots.specs.declared.expr.Entry.{Entry, out-Entry}
-use Rattle.mt_slots.specs.declared.expr.Expr.{Expr, out-Expr}
-use Rattle.mt_slots.specs.declared.expr.Expr.TheOpen.{Expr-F, Piece-F}
-use Rattle.mt_slots.specs.declared.expr.Piece.{Piece, out-Piece}
-use Rattle.mt_slots.specs.declared.function.Function.{Function}
-use Rattle.mt_slots.specs.declared.function.Unit.{Unit as Unit'}
-use Rattle.mt_slots.specs.declared.stmt.Decl.{Decl}
-use Rattle.mt_slots.specs.declared.stmt.ForStart.{ForStart}
-use Rattle.mt_slots.specs.declared.stmt.ForStart.TheVariants as start
-use Rattle.mt_slots.specs.declared.stmt.Stmt.{Stmt, out-Stmt}
-use Rattle.mt_slots.specs.declared.stmt.Stmt.TheOpen.{Stmt-F}
+use Rattle.mt_eval_meaning.specs.Frames.{Frame, referent}
+use Rattle.mt_eval_meaning.specs.Slots as slots
+use Rattle.mt_eval_meaning.specs.Slots.{Parts, ExprLayer, PieceLayer, StmtLayer}
+use Rattle.mt_eval_meaning.specs.declared.expr.Attribute.{Attribute, out-Attribute}
+use Rattle.mt_eval_meaning.specs.declared.expr.Entry.{Entry, out-Entry}
+use Rattle.mt_eval_meaning.specs.declared.expr.Expr.{Expr, out-Expr}
+use Rattle.mt_eval_meaning.specs.declared.expr.Expr.TheOpen.{Expr-F, Piece-F}
+use Rattle.mt_eval_meaning.specs.declared.expr.Piece.{Piece, out-Piece}
+use Rattle.mt_eval_meaning.specs.declared.function.Function.{Function}
+use Rattle.mt_eval_meaning.specs.declared.function.Unit.{Unit as Unit'}
+use Rattle.mt_eval_meaning.specs.declared.stmt.Decl.{Decl}
+use Rattle.mt_eval_meaning.specs.declared.stmt.ForStart.{ForStart}
+use Rattle.mt_eval_meaning.specs.declared.stmt.ForStart.TheVariants as start
+use Rattle.mt_eval_meaning.specs.declared.stmt.Stmt.{Stmt, out-Stmt}
+use Rattle.mt_eval_meaning.specs.declared.stmt.Stmt.TheOpen.{Stmt-F}
 use Rattle.mt_syntax.specs.DataLimits.{nodes_of_data}
 use Rattle.mt_tree.specs.declared.operators.Binary.{Binary}
 use Rattle.mt_tree.specs.declared.operators.VarKind.{VarKind}

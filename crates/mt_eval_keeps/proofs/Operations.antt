@@ -5,7 +5,7 @@ use Rattle.std.specs.Option.{option_map}
 use Rattle.std.proofs.lemmas.List.Elements.{All-head, All-tail}
 use Rattle.mt_eval_keeps.specs.Growth.{Owning, OwnValue, OwnCell}
 use Rattle.mt_eval_keeps.proofs.Steps.{OwnAnswer}
-use Rattle.mt_evaluation.specs.Expressions.{stepped, step_binary}
+use Rattle.mt_eval_meaning.specs.Expressions.{stepped, step_binary}
 use Rattle.mt_ops.proofs.Lawfulness.{binary_lawful}
 use Rattle.mt_ops.specs.Lawful.{LawfulAnswer}
 use Rattle.mt_ops.specs.Numbers.{within, sum, difference, product, quotient, remainder}
@@ -16,11 +16,11 @@ use Rattle.mt_ops.specs.declared.error.ErrorKind.{ErrorKind}
 use Rattle.mt_ops.specs.declared.error.ErrorKind.TheVariants as error
 use Rattle.mt_ops.specs.declared.error.Operator.{Operator}
 use Rattle.mt_ops.specs.declared.error.Operator.TheVariants as operator
-use Rattle.mt_properties.specs.Arrays.{or_undefined, item_at, array_property}
-use Rattle.mt_properties.specs.Keys.{no_such}
-use Rattle.mt_properties.specs.Objects.{name_of, place_of, value_at, named_value, object_property}
-use Rattle.mt_properties.specs.Properties.{cell_property, property}
-use Rattle.mt_properties.specs.Texts.{part_or_error, text_property}
+use Rattle.mt_ops_properties.specs.Arrays.{or_undefined, item_at, array_property}
+use Rattle.mt_ops_properties.specs.Keys.{no_such}
+use Rattle.mt_ops_properties.specs.Objects.{name_of, place_of, value_at, named_value, object_property}
+use Rattle.mt_ops_properties.specs.Properties.{cell_property, property}
+use Rattle.mt_ops_properties.specs.Texts.{part_or_error, text_property}
 use Rattle.mt_tree.specs.declared.operators.Binary.{Binary}
 use Rattle.mt_tree.specs.declared.operators.Binary.TheVariants as binary
 use Rattle.mt_tree.specs.declared.operators.StepKind.{StepKind}

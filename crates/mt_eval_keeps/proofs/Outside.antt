@@ -11,24 +11,24 @@ use Rattle.mt_eval_keeps.proofs.Forms.{stable_value, all_kept, still_binary}
 use Rattle.mt_eval_keeps.proofs.References.{OutsideKeeps, FitsReference, still_read, runs_write, still_get, still_read_name, still_write_name}
 use Rattle.mt_eval_keeps.proofs.Runs.{same, further, fits_kept, Claim, After, left_with, Runs, Still, still_runs, runs_bind, runs_pure, runs_less, runs_post, runs_unmetered, Value'}
 use Rattle.mt_eval_keeps.proofs.Steps.{Pays, Holds, pays_later, holds_later, runs_spend, runs_operate, runs_throw, beside_then, runs_all, runs_all_holding, still_settled}
-use Rattle.mt_evaluation.specs.Calls as calls
-use Rattle.mt_evaluation.specs.Expressions as forms
-use Rattle.mt_evaluation.specs.Host.{Outside}
-use Rattle.mt_evaluation.specs.References.{host_key, read, write}
-use Rattle.mt_evaluation.specs.Runs.{Ran, gives, and_then, all_behind}
-use Rattle.mt_evaluation.specs.State.{Eval, spend, operate, on_state, unmetered}
-use Rattle.mt_evaluation.specs.declared.callee.Callee.{Callee}
-use Rattle.mt_evaluation.specs.declared.callee.Callee.TheVariants as callee
-use Rattle.mt_evaluation.specs.declared.named_value.NamedValue.{NamedValue}
-use Rattle.mt_evaluation.specs.declared.reference.Reference.{Reference}
-use Rattle.mt_evaluation.specs.declared.reference.Reference.TheVariants as reference
-use Rattle.mt_evaluation.specs.declared.reference.Referent.{Referent}
-use Rattle.mt_evaluation.specs.declared.state.State.{State}
-use Rattle.mt_methods.specs.Costs.{method_cost}
-use Rattle.mt_methods.specs.Methods.{method as method_of}
+use Rattle.mt_eval_meaning.specs.Calls as calls
+use Rattle.mt_eval_meaning.specs.Expressions as forms
+use Rattle.mt_eval_meaning.specs.Host.{Outside}
+use Rattle.mt_eval_meaning.specs.References.{host_key, read, write}
+use Rattle.mt_eval_meaning.specs.Runs.{Ran, gives, and_then, all_behind}
+use Rattle.mt_eval_meaning.specs.State.{Eval, spend, operate, on_state, unmetered}
+use Rattle.mt_eval_meaning.specs.declared.callee.Callee.{Callee}
+use Rattle.mt_eval_meaning.specs.declared.callee.Callee.TheVariants as callee
+use Rattle.mt_eval_meaning.specs.declared.named_value.NamedValue.{NamedValue}
+use Rattle.mt_eval_meaning.specs.declared.reference.Reference.{Reference}
+use Rattle.mt_eval_meaning.specs.declared.reference.Reference.TheVariants as reference
+use Rattle.mt_eval_meaning.specs.declared.reference.Referent.{Referent}
+use Rattle.mt_eval_meaning.specs.declared.state.State.{State}
+use Rattle.mt_ops_methods.specs.Costs.{method_cost}
+use Rattle.mt_ops_methods.specs.Methods.{method as method_of}
 use Rattle.mt_ops.specs.Errors.{settled}
 use Rattle.mt_ops.specs.declared.error.ErrorKind.TheVariants as error
-use Rattle.mt_properties.specs.Costs.{steps, binary_units, property_units}
+use Rattle.mt_ops_properties.specs.Costs.{steps, binary_units, property_units}
 use Rattle.mt_tree.specs.declared.operators.Binary.{Binary}
 use Rattle.mt_tree.specs.declared.operators.StepKind.{StepKind}
 use Rattle.mt_tree.specs.declared.operators.StepKind.TheVariants as step

@@ -10,22 +10,22 @@ use Rattle.mt_eval_keeps.proofs.Changes.{written_leaves}
 use Rattle.mt_eval_keeps.proofs.Operations.{all_at, own_property}
 use Rattle.mt_eval_keeps.proofs.Runs.{same, fits_kept, own_cell_kept, Claim, After, Runs, Still, still_pure, still_runs, runs_bind, runs_pure, fixed_at, Value'}
 use Rattle.mt_eval_keeps.proofs.Steps.{Any, added_grew, put_grew, store_grew, good_store, still_settled, still_throw, runs_operate}
-use Rattle.mt_evaluation.specs.Host.{Answer, Answering, Meaning, Outside, added_cell, seen, does, done_ran, outside_by}
-use Rattle.mt_evaluation.specs.References.{variable_value, assignable, global_value, read_variable, write_variable, read_global, write_global, write_name, variable_put, declare_variable, declare, declare_global, host_key, is_hosted, read_builtin, read_name, get, get_by, set, set_by, read, write}
-use Rattle.mt_evaluation.specs.Runs.{gives, and_then}
-use Rattle.mt_evaluation.specs.State.{Eval, throw, or_throw, put_cell, put_global, on_state, beside}
-use Rattle.mt_evaluation.specs.declared.exit.Done.{Done}
-use Rattle.mt_evaluation.specs.declared.exit.Done.TheVariants as done
-use Rattle.mt_evaluation.specs.declared.named_value.NamedValue.{NamedValue}
-use Rattle.mt_evaluation.specs.declared.reference.Reference.{Reference}
-use Rattle.mt_evaluation.specs.declared.reference.Reference.TheVariants as reference
-use Rattle.mt_evaluation.specs.declared.reference.Referent.{Referent}
-use Rattle.mt_evaluation.specs.declared.reference.Referent.TheVariants as refers
-use Rattle.mt_evaluation.specs.declared.state.State.{State}
+use Rattle.mt_eval_meaning.specs.Host.{Answer, Answering, Meaning, Outside, added_cell, seen, does, done_ran, outside_by}
+use Rattle.mt_eval_meaning.specs.References.{variable_value, assignable, global_value, read_variable, write_variable, read_global, write_global, write_name, variable_put, declare_variable, declare, declare_global, host_key, is_hosted, read_builtin, read_name, get, get_by, set, set_by, read, write}
+use Rattle.mt_eval_meaning.specs.Runs.{gives, and_then}
+use Rattle.mt_eval_meaning.specs.State.{Eval, throw, or_throw, put_cell, put_global, on_state, beside}
+use Rattle.mt_eval_meaning.specs.declared.exit.Done.{Done}
+use Rattle.mt_eval_meaning.specs.declared.exit.Done.TheVariants as done
+use Rattle.mt_eval_meaning.specs.declared.named_value.NamedValue.{NamedValue}
+use Rattle.mt_eval_meaning.specs.declared.reference.Reference.{Reference}
+use Rattle.mt_eval_meaning.specs.declared.reference.Reference.TheVariants as reference
+use Rattle.mt_eval_meaning.specs.declared.reference.Referent.{Referent}
+use Rattle.mt_eval_meaning.specs.declared.reference.Referent.TheVariants as refers
+use Rattle.mt_eval_meaning.specs.declared.state.State.{State}
 use Rattle.mt_ops.specs.declared.error.ErrorKind.{ErrorKind}
 use Rattle.mt_ops.specs.declared.error.ErrorKind.TheVariants as error
-use Rattle.mt_properties.proofs.Lawfulness.{property_lawful}
-use Rattle.mt_properties.specs.Properties.{property, written}
+use Rattle.mt_ops_properties.proofs.Lawfulness.{property_lawful}
+use Rattle.mt_ops_properties.specs.Properties.{property, written}
 use Rattle.mt_value.proofs.Laws.{lawful_put, value_kept}
 use Rattle.mt_value.specs.Globals.{Variables, value_of, assigned}
 use Rattle.mt_value.specs.Lawful.{Kind, kind_of, Names, LawfulCell}

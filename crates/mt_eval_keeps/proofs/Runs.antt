@@ -5,11 +5,11 @@ use Rattle.std.proofs.lemmas.List.Elements.{All-weaker}
 use Rattle.mt_eval_keeps.specs.Between.{with_steps}
 use Rattle.mt_eval_keeps.specs.Growth.{Owning, Thing, count_of, GrewTo, OwnValue, OwnCell, FitsCell, Fits, Good, Grew}
 use Rattle.mt_eval_keeps.specs.Growth as thing
-use Rattle.mt_evaluation.specs.Runs.{Ran, gives, leaves, and_then, caught}
-use Rattle.mt_evaluation.specs.State.{Eval, with_budget, unmetered}
-use Rattle.mt_evaluation.specs.declared.exit.Exit.{Exit}
-use Rattle.mt_evaluation.specs.declared.exit.Exit.TheVariants as exit
-use Rattle.mt_evaluation.specs.declared.state.State.{State}
+use Rattle.mt_eval_meaning.specs.Runs.{Ran, gives, leaves, and_then, caught}
+use Rattle.mt_eval_meaning.specs.State.{Eval, with_budget, unmetered}
+use Rattle.mt_eval_meaning.specs.declared.exit.Exit.{Exit}
+use Rattle.mt_eval_meaning.specs.declared.exit.Exit.TheVariants as exit
+use Rattle.mt_eval_meaning.specs.declared.state.State.{State}
 use Rattle.mt_value.proofs.Laws.{keeps_all, value_kept}
 use Rattle.mt_value.specs.declared.cell.Cell.{Cell}
 use Rattle.mt_value.specs.declared.cell.Cell.TheVariants as cell

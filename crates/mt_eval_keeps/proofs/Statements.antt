@@ -5,14 +5,14 @@ use Rattle.std.proofs.lemmas.List.Elements.{All-head, All-tail, All-weaker}
 use Rattle.mt_eval_keeps.specs.Growth.{Owning, Fits, Good, Grew}
 use Rattle.mt_eval_keeps.proofs.Runs.{same, further, fits_kept, Claim, After, left_with, Runs, runs_bind, runs_pure, runs_less, runs_leave, runs_framed, runs_caught, Value'}
 use Rattle.mt_eval_keeps.proofs.Steps.{Any, Pays, Holds, holds_later}
-use Rattle.mt_evaluation.specs.Runs.{leaves}
-use Rattle.mt_evaluation.specs.State.{Eval}
-use Rattle.mt_evaluation.specs.Statements as statements
-use Rattle.mt_evaluation.specs.declared.completion.Completion.{Completion}
-use Rattle.mt_evaluation.specs.declared.completion.Completion.TheVariants as completion
-use Rattle.mt_evaluation.specs.declared.exit.Exit.TheVariants as exit
-use Rattle.mt_evaluation.specs.declared.exit.Stop.TheVariants as stop
-use Rattle.mt_evaluation.specs.declared.state.State.{State}
+use Rattle.mt_eval_meaning.specs.Runs.{leaves}
+use Rattle.mt_eval_meaning.specs.State.{Eval}
+use Rattle.mt_eval_meaning.specs.Statements as statements
+use Rattle.mt_eval_meaning.specs.declared.completion.Completion.{Completion}
+use Rattle.mt_eval_meaning.specs.declared.completion.Completion.TheVariants as completion
+use Rattle.mt_eval_meaning.specs.declared.exit.Exit.TheVariants as exit
+use Rattle.mt_eval_meaning.specs.declared.exit.Stop.TheVariants as stop
+use Rattle.mt_eval_meaning.specs.declared.state.State.{State}
 use Rattle.mt_ops.specs.Operators.{is_truthy}
 use Rattle.mt_value.specs.declared.value.Value.{Value}
 

@@ -7,11 +7,11 @@ use Rattle.std.proofs.lemmas.List.Elements.{All-nil, All-cons, All-head, All-tai
 use Rattle.mt_eval_keeps.specs.Between.{with_store}
 use Rattle.mt_eval_keeps.specs.Growth.{Owning, is_fixed, GrewTo, OwnValue, FitsCell, Fits, Good, Grew}
 use Rattle.mt_eval_keeps.proofs.Runs.{same, further, fits_kept, Claim, After, left_with, fixed_at, Runs, Still, still_runs, runs_bind, runs_pure, runs_less, runs_post, good_less, good_steps, Value'}
-use Rattle.mt_evaluation.specs.Runs.{Ran, gives, leaves, Run, and_then, all_behind, all, each}
-use Rattle.mt_evaluation.specs.State.{Eval, spend, throw, or_throw, operate, outcome_ran, add_cell, on_state, beside}
-use Rattle.mt_evaluation.specs.declared.exit.Exit.TheVariants as exit
-use Rattle.mt_evaluation.specs.declared.exit.Stop.TheVariants as stop
-use Rattle.mt_evaluation.specs.declared.state.State.{State}
+use Rattle.mt_eval_meaning.specs.Runs.{Ran, gives, leaves, Run, and_then, all_behind, all, each}
+use Rattle.mt_eval_meaning.specs.State.{Eval, spend, throw, or_throw, operate, outcome_ran, add_cell, on_state, beside}
+use Rattle.mt_eval_meaning.specs.declared.exit.Exit.TheVariants as exit
+use Rattle.mt_eval_meaning.specs.declared.exit.Stop.TheVariants as stop
+use Rattle.mt_eval_meaning.specs.declared.state.State.{State}
 use Rattle.mt_ops.proofs.Lawfulness.{settled_lawful}
 use Rattle.mt_ops.specs.Errors.{error_cell, settled}
 use Rattle.mt_ops.specs.Lawful.{StaysLawful, LawfulAnswer, value_of}

@@ -6,14 +6,14 @@ use Rattle.mt_eval_keeps.specs.Kept.{Tests, owns, allowed, tildes, Fit, UnitFits
 use Rattle.mt_eval_keeps.proofs.Building.{built_pays}
 use Rattle.mt_eval_keeps.proofs.Levels.{unit_runs, called_runs}
 use Rattle.mt_eval_keeps.proofs.Runs.{same, After, left_with, FitsExit, Value'}
-use Rattle.mt_evaluation.specs.Host.{Meaning}
-use Rattle.mt_evaluation.specs.Runs.{Ran, gives, leaves}
-use Rattle.mt_evaluation.specs.declared.exit.Exit.{Exit}
-use Rattle.mt_evaluation.specs.declared.exit.Exit.TheVariants as exit
-use Rattle.mt_evaluation.specs.declared.state.State.{State}
-use Rattle.mt_slots.specs.Slots as slots
-use Rattle.mt_slots.specs.declared.function.Function.{Function}
-use Rattle.mt_slots.specs.declared.function.Unit.{Unit as Unit'}
+use Rattle.mt_eval_meaning.specs.Host.{Meaning}
+use Rattle.mt_eval_meaning.specs.Runs.{Ran, gives, leaves}
+use Rattle.mt_eval_meaning.specs.declared.exit.Exit.{Exit}
+use Rattle.mt_eval_meaning.specs.declared.exit.Exit.TheVariants as exit
+use Rattle.mt_eval_meaning.specs.declared.state.State.{State}
+use Rattle.mt_eval_meaning.specs.Slots as slots
+use Rattle.mt_eval_meaning.specs.declared.function.Function.{Function}
+use Rattle.mt_eval_meaning.specs.declared.function.Unit.{Unit as Unit'}
 use Rattle.mt_value.specs.declared.value.Value.{Value}
 
 module _ {H : Type 0} (tests : Tests H) (most : ℕ) (host : Meaning H) (functions : List Function) (fit : Fit tests most host functions) where

@@ -1,6 +1,6 @@
 -- What may happen to a state between two jobs.
 use Rattle.std.specs.Prelude.{ℕ, List, []}
-use Rattle.mt_evaluation.specs.declared.state.State.{State}
+use Rattle.mt_eval_meaning.specs.declared.state.State.{State}
 use Rattle.mt_value.specs.declared.cell.Cell.{Cell}
 
 -- before all jobs

@@ -2,19 +2,19 @@
 -- the numbers of such code.
 use Rattle.std.specs.Prelude.{◌≡◌, ℕ, zero, suc, ◌<◌, ◌^◌, List, length, map, All, Option, None, Some, slice_get, IsTrue}
 use Rattle.mt_tree.specs.Limits.{depth_limit}
-use Rattle.mt_slots.specs.Slots.{ExprLayer, PieceLayer, StmtLayer}
-use Rattle.mt_slots.specs.declared.expr.Attribute.{out-Attribute}
-use Rattle.mt_slots.specs.declared.expr.Entry.{out-Entry}
-use Rattle.mt_slots.specs.declared.expr.Expr.{Expr, out-Expr}
-use Rattle.mt_slots.specs.declared.expr.Expr.TheOpen.{Expr-F, Piece-F}
-use Rattle.mt_slots.specs.declared.expr.Piece.{out-Piece}
-use Rattle.mt_slots.specs.declared.function.Body.{Body}
-use Rattle.mt_slots.specs.declared.function.Function.{Function}
-use Rattle.mt_slots.specs.declared.stmt.Decl.{Decl}
-use Rattle.mt_slots.specs.declared.stmt.ForStart.{ForStart}
-use Rattle.mt_slots.specs.declared.stmt.ForStart.TheVariants as start
-use Rattle.mt_slots.specs.declared.stmt.Stmt.{Stmt, out-Stmt}
-use Rattle.mt_slots.specs.declared.stmt.Stmt.TheOpen.{Stmt-F}
+use Rattle.mt_eval_meaning.specs.Slots.{ExprLayer, PieceLayer, StmtLayer}
+use Rattle.mt_eval_meaning.specs.declared.expr.Attribute.{out-Attribute}
+use Rattle.mt_eval_meaning.specs.declared.expr.Entry.{out-Entry}
+use Rattle.mt_eval_meaning.specs.declared.expr.Expr.{Expr, out-Expr}
+use Rattle.mt_eval_meaning.specs.declared.expr.Expr.TheOpen.{Expr-F, Piece-F}
+use Rattle.mt_eval_meaning.specs.declared.expr.Piece.{out-Piece}
+use Rattle.mt_eval_meaning.specs.declared.function.Body.{Body}
+use Rattle.mt_eval_meaning.specs.declared.function.Function.{Function}
+use Rattle.mt_eval_meaning.specs.declared.stmt.Decl.{Decl}
+use Rattle.mt_eval_meaning.specs.declared.stmt.ForStart.{ForStart}
+use Rattle.mt_eval_meaning.specs.declared.stmt.ForStart.TheVariants as start
+use Rattle.mt_eval_meaning.specs.declared.stmt.Stmt.{Stmt, out-Stmt}
+use Rattle.mt_eval_meaning.specs.declared.stmt.Stmt.TheOpen.{Stmt-F}
 use Rattle.mt_syntax.specs.DataLimits.{nodes_of_data}
 use Rattle.mt_value.specs.Limits.{in_range, text_fits, data_fits}
 

@@ -1,6 +1,6 @@
 -- What evaluation keeps: the states that it can meet, and how they grow.
 use Rattle.std.specs.Prelude.{◌≡◌, ℕ, ◌+◌, ◌≤◌, Bool, true, false, List, length, All, None, Some, slice_get}
-use Rattle.mt_evaluation.specs.declared.state.State.{State}
+use Rattle.mt_eval_meaning.specs.declared.state.State.{State}
 use Rattle.mt_tree.specs.declared.closure.Closure.{Closure}
 use Rattle.mt_tree.specs.declared.html.Html.{Html}
 use Rattle.mt_value.specs.Lawful.{Kind, function, kind_of, Names, Keeps, LawfulValue, Lawful}

@@ -2,11 +2,11 @@
 use Rattle.std.specs.Prelude.{ℕ, List, ◌++◌, length, map, All, IsTrue}
 use Rattle.mt_eval_keeps.specs.Growth.{Owning, Thing, FitsCell, Fits, OwnValue, Good}
 use Rattle.mt_eval_keeps.specs.Growth as thing
-use Rattle.mt_evaluation.specs.Host.{Answer, Answering, Meaning, added_cell, seen}
-use Rattle.mt_evaluation.specs.declared.exit.Done.{Done}
-use Rattle.mt_evaluation.specs.declared.exit.Done.TheVariants as done
-use Rattle.mt_evaluation.specs.declared.named_value.NamedValue.{NamedValue}
-use Rattle.mt_evaluation.specs.declared.state.State.{State}
+use Rattle.mt_eval_meaning.specs.Host.{Answer, Answering, Meaning, added_cell, seen}
+use Rattle.mt_eval_meaning.specs.declared.exit.Done.{Done}
+use Rattle.mt_eval_meaning.specs.declared.exit.Done.TheVariants as done
+use Rattle.mt_eval_meaning.specs.declared.named_value.NamedValue.{NamedValue}
+use Rattle.mt_eval_meaning.specs.declared.state.State.{State}
 use Rattle.mt_value.specs.Lawful.{function, Names, Lawful, LawfulValue}
 use Rattle.mt_value.specs.Limits.{text_fits}
 use Rattle.mt_value.specs.declared.cell.Cell.{Cell}

@@ -4,13 +4,13 @@ use Rattle.mt_eval_keeps.specs.Code.{CodeFits, BodyFits}
 use Rattle.mt_eval_keeps.specs.Growth.{Owning, Thing, Fits, Good, Grew}
 use Rattle.mt_eval_keeps.specs.Growth as thing
 use Rattle.mt_eval_keeps.specs.Hosts.{KeepsAll}
-use Rattle.mt_evaluation.specs.Host.{Meaning}
-use Rattle.mt_evaluation.specs.Runs.{Ran, gives, leaves}
-use Rattle.mt_evaluation.specs.declared.exit.Exit.{Exit}
-use Rattle.mt_evaluation.specs.declared.exit.Exit.TheVariants as exit
-use Rattle.mt_evaluation.specs.declared.state.State.{State}
-use Rattle.mt_slots.specs.declared.function.Function.{Function}
-use Rattle.mt_slots.specs.declared.function.Unit.{Unit as Unit'}
+use Rattle.mt_eval_meaning.specs.Host.{Meaning}
+use Rattle.mt_eval_meaning.specs.Runs.{Ran, gives, leaves}
+use Rattle.mt_eval_meaning.specs.declared.exit.Exit.{Exit}
+use Rattle.mt_eval_meaning.specs.declared.exit.Exit.TheVariants as exit
+use Rattle.mt_eval_meaning.specs.declared.state.State.{State}
+use Rattle.mt_eval_meaning.specs.declared.function.Function.{Function}
+use Rattle.mt_eval_meaning.specs.declared.function.Unit.{Unit as Unit'}
 use Rattle.mt_value.specs.declared.value.Value.{Value}
 
 pub record Tests (H : Type 0) : Type 0 where

@@ -15,11 +15,11 @@ ghost use Rattle.mt_eval_keeps.specs.Between.{empty_state, with_host, with_steps
 ghost use Rattle.mt_eval_keeps.specs.Growth.{Grew, Thing};
 ghost use Rattle.mt_eval_keeps.specs.Growth as thing;
 ghost use Rattle.mt_eval_keeps.specs.Kept.{Fit, IsFit, IsLawful, Kept, RunKept, Tests, UnitFits, has, owns};
-ghost use Rattle.mt_evaluation.specs.Building.{build};
-ghost use Rattle.mt_evaluation.specs.declared.state.State.{State};
-ghost use Rattle.mt_slots.specs.Slots as slots;
-ghost use Rattle.mt_slots.specs.declared.function.Function.{Function};
-ghost use Rattle.mt_slots.specs.declared.function.Unit.{Unit as Unit'};
+ghost use Rattle.mt_eval_meaning.specs.Building.{build};
+ghost use Rattle.mt_eval_meaning.specs.declared.state.State.{State};
+ghost use Rattle.mt_eval_meaning.specs.Slots as slots;
+ghost use Rattle.mt_eval_meaning.specs.declared.function.Function.{Function};
+ghost use Rattle.mt_eval_meaning.specs.declared.function.Unit.{Unit as Unit'};
 ghost use Rattle.mt_syntax.specs.DataLimits.{nodes_of_data};
 ghost use Rattle.mt_tree.specs.declared.data.Data.{Data};
 ghost use Rattle.mt_value.specs.Lawful.{Names, function, variable};
@@ -29,7 +29,7 @@ ghost use Rattle.mt_value.specs.declared.cell.FunCell.{FunCell};
 ghost use Rattle.mt_value.specs.declared.value.Value.{Value};
 ghost use Rattle.mt_value.specs.declared.value.Value.TheVariants as value;
 
-use mt_evaluation::Host;
+use mt_eval_meaning::Host;
 
 /// The code of a tier, from a lawful state, leaves a lawful one, which grew of the first.
 pub fn unit_keeps<H: Host>()

@@ -1,12 +1,12 @@
 -- Steps that are more than any budget.
 use Rattle.std.proofs.Common.{◌≡◌, ℕ, suc, ◌-◌, ◌^◌, ◌<◌, ◌≤◌, Bool, true, false, if◌then◌else◌, nat_lt, ltb-true, ltb-false, ap, ◌∙◌, sym, refl, arith}
 use Rattle.std.proofs.Math.Nat.{min-eq_left, min-eq_right}
-use Rattle.mt_evaluation.specs.Runs.{Ran, gives, leaves}
-use Rattle.mt_evaluation.specs.State.{spend}
-use Rattle.mt_evaluation.specs.declared.exit.Exit.TheVariants as exit
-use Rattle.mt_evaluation.specs.declared.exit.Stop.TheVariants as stop
-use Rattle.mt_evaluation.specs.declared.state.State.{State}
-use Rattle.mt_methods.specs.Costs.{counted}
+use Rattle.mt_eval_meaning.specs.Runs.{Ran, gives, leaves}
+use Rattle.mt_eval_meaning.specs.State.{spend}
+use Rattle.mt_eval_meaning.specs.declared.exit.Exit.TheVariants as exit
+use Rattle.mt_eval_meaning.specs.declared.exit.Stop.TheVariants as stop
+use Rattle.mt_eval_meaning.specs.declared.state.State.{State}
+use Rattle.mt_ops_methods.specs.Costs.{counted}
 
 abbrev taken_if : Bool → ℕ → State → Ran State (Unit {0})
 taken_if b m s = if b then gives tt (record s { budget = s.budget - suc m }) else leaves (exit.Stop stop.Budget) s

@@ -2,15 +2,15 @@
 use Rattle.std.specs.Prelude.{ℕ, ◌+◌, ◌*◌, ◌≤◌, List, Result}
 use Rattle.std.specs.declared.alloc.Global.{Global}
 use denote.Ref.{Bor, MutBor}
-use Rattle.mt_evaluation.specs.Host.{Meaning}
-use Rattle.mt_evaluation.specs.Runs.{Evals}
-use Rattle.mt_evaluation.specs.declared.completion.Completion.{Completion}
-use Rattle.mt_evaluation.specs.declared.exit.Exit.{Exit}
-use Rattle.mt_evaluation.specs.declared.state.State.{State}
-use Rattle.mt_slots.specs.Slots.{parts}
-use Rattle.mt_slots.specs.declared.expr.Expr.{Expr}
-use Rattle.mt_slots.specs.declared.function.Function.{Function}
-use Rattle.mt_slots.specs.declared.stmt.Stmt.{Stmt}
+use Rattle.mt_eval_meaning.specs.Host.{Meaning}
+use Rattle.mt_eval_meaning.specs.Runs.{Evals}
+use Rattle.mt_eval_meaning.specs.declared.completion.Completion.{Completion}
+use Rattle.mt_eval_meaning.specs.declared.exit.Exit.{Exit}
+use Rattle.mt_eval_meaning.specs.declared.state.State.{State}
+use Rattle.mt_eval_meaning.specs.Slots.{parts}
+use Rattle.mt_eval_meaning.specs.declared.expr.Expr.{Expr}
+use Rattle.mt_eval_meaning.specs.declared.function.Function.{Function}
+use Rattle.mt_eval_meaning.specs.declared.stmt.Stmt.{Stmt}
 use Rattle.mt_value.specs.declared.value.Value.{Value}
 
 -- the place of a level among all: first the calls that are left, then the depth

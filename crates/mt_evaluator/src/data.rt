@@ -1,11 +1,10 @@
-ghost use Rattle.mt_evaluation.specs.Expressions as forms;
-ghost use Rattle.mt_evaluation.specs.Runs.{Evals};
-ghost use Rattle.mt_evaluation.specs.State as spec;
+ghost use Rattle.mt_eval_meaning.specs.Expressions as forms;
+ghost use Rattle.mt_eval_meaning.specs.Runs.{Evals};
+ghost use Rattle.mt_eval_meaning.specs.State as spec;
 ghost use Rattle.mt_syntax.specs.DataLimits.{nodes_of_data};
 
-use mt_data_cells::{build, nodes};
-use mt_evaluation::{Exit, State};
-use mt_steps::spend;
+use mt_eval_meaning::{Exit, State};
+use mt_eval_steps::{build, nodes, spend};
 use mt_tree::Data;
 use mt_value::Value;
 use std::alloc::Global;
@@ -27,7 +26,7 @@ pub(crate) fn spend_nodes(state: &mut State, datum: &Data) -> Result<(), Exit>
 ///
 /// # Errors
 /// `NoMemory`.
-#[tactic(auto, unfolding(mt_evaluation::specs::Expressions::build_cells))]
+#[tactic(auto, unfolding(mt_eval_meaning::specs::Expressions::build_cells))]
 pub(crate) fn build_cells(alloc: Global, state: &mut State, datum: &Data) -> Result<Value, Exit>
     ensures { Evals (forms.build_cells datum.now state.old) result state.new }
 {

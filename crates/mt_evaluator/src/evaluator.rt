@@ -1,10 +1,9 @@
-ghost use Rattle.mt_evaluation.specs.Runs.{Evals};
+ghost use Rattle.mt_eval_meaning.specs.Runs.{Evals};
 ghost use Rattle.mt_evaluator.specs.Nests.{Nests, rank};
-ghost use Rattle.mt_slots.specs.Slots.{parts};
+ghost use Rattle.mt_eval_meaning.specs.Slots.{parts};
 
-use mt_evaluation::{Completion, Exit, Host, NamedValue, State};
-use mt_slots::{Expr, Function, Stmt};
-use mt_steps::{
+use mt_eval_meaning::{Completion, Exit, Expr, Function, Host, NamedValue, State, Stmt};
+use mt_eval_steps::{
     call_native, call_service, get_hosted, hosted_method, make_element, set_hosted, stage_tilde,
 };
 use mt_tree::Text;
@@ -85,7 +84,7 @@ impl<
     ///
     /// # Errors
     /// As the host says, and `NoMemory`.
-    #[tactic(auto, unfolding(mt_slots::specs::Slots::parts))]
+    #[tactic(auto, unfolding(mt_eval_meaning::specs::Slots::parts))]
     pub fn native(
         &self,
         state: &mut State,
@@ -102,7 +101,7 @@ impl<
     ///
     /// # Errors
     /// As the host says, and `NoMemory`.
-    #[tactic(auto, unfolding(mt_slots::specs::Slots::parts))]
+    #[tactic(auto, unfolding(mt_eval_meaning::specs::Slots::parts))]
     pub fn method(
         &self,
         state: &mut State,
@@ -120,7 +119,7 @@ impl<
     ///
     /// # Errors
     /// As the host says, and `NoMemory`.
-    #[tactic(auto, unfolding(mt_slots::specs::Slots::parts))]
+    #[tactic(auto, unfolding(mt_eval_meaning::specs::Slots::parts))]
     pub fn hosted(
         &self,
         state: &mut State,
@@ -137,7 +136,7 @@ impl<
     ///
     /// # Errors
     /// As the host says, and `NoMemory`.
-    #[tactic(auto, unfolding(mt_slots::specs::Slots::parts))]
+    #[tactic(auto, unfolding(mt_eval_meaning::specs::Slots::parts))]
     pub fn set_on_host(
         &self,
         state: &mut State,
@@ -155,7 +154,7 @@ impl<
     ///
     /// # Errors
     /// As the host says, and `NoMemory`.
-    #[tactic(auto, unfolding(mt_slots::specs::Slots::parts))]
+    #[tactic(auto, unfolding(mt_eval_meaning::specs::Slots::parts))]
     pub fn service(
         &self,
         state: &mut State,
@@ -172,7 +171,7 @@ impl<
     ///
     /// # Errors
     /// As the host says, and `NoMemory`.
-    #[tactic(auto, unfolding(mt_slots::specs::Slots::parts))]
+    #[tactic(auto, unfolding(mt_eval_meaning::specs::Slots::parts))]
     pub fn staged(
         &self,
         state: &mut State,
@@ -189,7 +188,7 @@ impl<
     ///
     /// # Errors
     /// As the host says, and `NoMemory`.
-    #[tactic(auto, unfolding(mt_slots::specs::Slots::parts))]
+    #[tactic(auto, unfolding(mt_eval_meaning::specs::Slots::parts))]
     pub fn element_of(
         &self,
         state: &mut State,

@@ -1,7 +1,7 @@
 //! One level of the evaluation of resolved code: what each form of expressions does, over two functions that evaluate the parts of
 //! a node.
 //!
-//! Each method of [`Evaluator`] does what the form's definition says (`mt_evaluation`, with the parts of `mt_slots`), in result, state and
+//! Each method of [`Evaluator`] does what the form's definition says (`mt_eval_meaning`, with the parts of `mt_eval_meaning`), in result, state and
 //! host, or answers `Exit::NoMemory`. That the two functions do so for the parts is what each asks (`specs/Nests.antt`). So no method
 //! calls itself; the recursion is closed in the crate above.
 #![tactic(auto)]

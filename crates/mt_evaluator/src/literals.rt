@@ -1,15 +1,16 @@
 ghost use Rattle.std.specs.Prelude.{map};
-ghost use Rattle.mt_evaluation.specs.Expressions as forms;
-ghost use Rattle.mt_evaluation.specs.Runs.{Evals, all};
+ghost use Rattle.mt_eval_meaning.specs.Expressions as forms;
+ghost use Rattle.mt_eval_meaning.specs.Runs.{Evals, all};
 ghost use Rattle.mt_evaluator.specs.Nests.{Nests, rank};
-ghost use Rattle.mt_slots.specs.Slots as spec;
-ghost use Rattle.mt_slots.specs.Slots.{parts};
+ghost use Rattle.mt_eval_meaning.specs.Slots as spec;
+ghost use Rattle.mt_eval_meaning.specs.Slots.{parts};
 
 use crate::data::{build_cells, spend_nodes};
 use crate::evaluator::Evaluator;
-use mt_evaluation::{Completion, Exit, Host, NamedValue, State};
-use mt_slots::{Attribute, Entry, Expr, Function, Piece, Stmt};
-use mt_steps::{add_cell, literal_properties, spend};
+use mt_eval_meaning::{
+    Attribute, Completion, Entry, Exit, Expr, Function, Host, NamedValue, Piece, State, Stmt,
+};
+use mt_eval_steps::{add_cell, literal_properties, spend};
 use mt_tree::{Buffer, Data, Text};
 use mt_value::{Address, Cell, Property, Value};
 use std::alloc::Global;
@@ -60,7 +61,7 @@ impl<
         Ok(done)
     }
 
-    #[tactic(auto, unfolding(mt_evaluation::specs::Expressions::entry))]
+    #[tactic(auto, unfolding(mt_eval_meaning::specs::Expressions::entry))]
     fn entry(
         &self,
         frame: &[Address],
@@ -96,7 +97,7 @@ impl<
         Ok(done)
     }
 
-    #[tactic(auto, unfolding(mt_slots::specs::Slots::piece))]
+    #[tactic(auto, unfolding(mt_eval_meaning::specs::Slots::piece))]
     fn piece(
         &self,
         frame: &[Address],
@@ -131,7 +132,7 @@ impl<
         Ok(done)
     }
 
-    #[tactic(auto, unfolding(mt_evaluation::specs::Expressions::attribute))]
+    #[tactic(auto, unfolding(mt_eval_meaning::specs::Expressions::attribute))]
     fn attribute(
         &self,
         frame: &[Address],
@@ -171,7 +172,7 @@ impl<
     ///
     /// # Errors
     /// As the code says, and `NoMemory`.
-    #[tactic(auto, unfolding(mt_evaluation::specs::Expressions::array))]
+    #[tactic(auto, unfolding(mt_eval_meaning::specs::Expressions::array))]
     pub fn array(
         &self,
         frame: &[Address],
@@ -192,7 +193,7 @@ impl<
     ///
     /// # Errors
     /// As the code says, and `NoMemory`.
-    #[tactic(auto, unfolding(mt_evaluation::specs::Expressions::object))]
+    #[tactic(auto, unfolding(mt_eval_meaning::specs::Expressions::object))]
     pub fn object(
         &self,
         frame: &[Address],
@@ -214,7 +215,7 @@ impl<
     ///
     /// # Errors
     /// As the code says, and `NoMemory`.
-    #[tactic(auto, unfolding(mt_evaluation::specs::Expressions::tilde))]
+    #[tactic(auto, unfolding(mt_eval_meaning::specs::Expressions::tilde))]
     pub fn tilde(
         &self,
         frame: &[Address],
@@ -235,7 +236,7 @@ impl<
     ///
     /// # Errors
     /// As the code says, and `NoMemory`.
-    #[tactic(auto, unfolding(mt_evaluation::specs::Expressions::element))]
+    #[tactic(auto, unfolding(mt_eval_meaning::specs::Expressions::element))]
     pub fn element(
         &self,
         frame: &[Address],
@@ -257,7 +258,7 @@ impl<
     ///
     /// # Errors
     /// The stop `Budget`, where its nodes are more than what is left, and `NoMemory`.
-    #[tactic(auto, unfolding(mt_evaluation::specs::Expressions::built))]
+    #[tactic(auto, unfolding(mt_eval_meaning::specs::Expressions::built))]
     pub fn built(&self, state: &mut State, host: &mut H, datum: &Data) -> Result<Value, Exit>
         ensures { Evals (forms.built datum.now (state.old, host.old)) result (state.new, host.new) }
     {

@@ -1,20 +1,18 @@
 ghost use Rattle.std.specs.Prelude.{◌≡◌};
-ghost use Rattle.mt_evaluation.specs.Expressions as forms;
-ghost use Rattle.mt_evaluation.specs.References as references;
-ghost use Rattle.mt_evaluation.specs.Runs.{Evals};
-ghost use Rattle.mt_evaluation.specs.State.{on_state};
+ghost use Rattle.mt_eval_meaning.specs.Expressions as forms;
+ghost use Rattle.mt_eval_meaning.specs.References as references;
+ghost use Rattle.mt_eval_meaning.specs.Runs.{Evals};
+ghost use Rattle.mt_eval_meaning.specs.State.{on_state};
 ghost use Rattle.mt_evaluator.specs.Nests.{Nests, rank};
-ghost use Rattle.mt_slots.specs.Frames as frames;
-ghost use Rattle.mt_slots.specs.Slots as spec;
-ghost use Rattle.mt_slots.specs.Slots.{parts};
+ghost use Rattle.mt_eval_meaning.specs.Frames as frames;
+ghost use Rattle.mt_eval_meaning.specs.Slots as spec;
+ghost use Rattle.mt_eval_meaning.specs.Slots.{parts};
 
 use crate::evaluator::Evaluator;
-use mt_evaluation::{Completion, Exit, Host, State};
-use mt_frames::{capture, referent};
+use mt_eval_meaning::{Completion, Exit, Expr, Function, Host, Name, State, Stmt};
+use mt_eval_steps::{binary, capture, count, referent, spend, unary};
 use mt_ops::is_truthy;
-use mt_properties::{binary_cost, property_cost, unary_cost};
-use mt_slots::{Expr, Function, Name, Stmt};
-use mt_steps::{binary, count, spend, unary};
+use mt_ops_properties::{binary_cost, property_cost, unary_cost};
 use mt_tree::{Binary, StepKind, Unary};
 use mt_value::{Address, Value};
 use std::alloc::Global;
@@ -56,7 +54,7 @@ impl<
     ///
     /// # Errors
     /// The stop `Budget`.
-    #[tactic(auto, unfolding(mt_evaluation::specs::Expressions::constant))]
+    #[tactic(auto, unfolding(mt_eval_meaning::specs::Expressions::constant))]
     pub fn constant(&self, state: &mut State, host: &mut H, value: Value) -> Result<Value, Exit>
         ensures { Evals (forms.constant value (state.old, host.old)) result (state.new, host.new) }
     {
@@ -68,7 +66,7 @@ impl<
     ///
     /// # Errors
     /// As the code says, and `NoMemory`.
-    #[tactic(auto, unfolding(mt_evaluation::specs::Expressions::looked_up))]
+    #[tactic(auto, unfolding(mt_eval_meaning::specs::Expressions::looked_up))]
     pub fn name(
         &self,
         frame: &[Address],
@@ -86,7 +84,7 @@ impl<
     ///
     /// # Errors
     /// The stop `Budget`, and `NoMemory`.
-    #[tactic(auto, unfolding(mt_evaluation::specs::Expressions::function))]
+    #[tactic(auto, unfolding(mt_eval_meaning::specs::Expressions::function))]
     pub fn function(
         &self,
         frame: &[Address],
@@ -105,7 +103,7 @@ impl<
     ///
     /// # Errors
     /// As the code says, and `NoMemory`.
-    #[tactic(auto, unfolding(mt_evaluation::specs::Expressions::unary))]
+    #[tactic(auto, unfolding(mt_eval_meaning::specs::Expressions::unary))]
     pub fn unary(
         &self,
         frame: &[Address],
@@ -126,7 +124,7 @@ impl<
     ///
     /// # Errors
     /// As the code says, and `NoMemory`.
-    #[tactic(auto, unfolding(mt_evaluation::specs::Expressions::operation))]
+    #[tactic(auto, unfolding(mt_eval_meaning::specs::Expressions::operation))]
     pub fn operation(
         &self,
         frame: &[Address],
@@ -149,7 +147,7 @@ impl<
     ///
     /// # Errors
     /// As the code says, and `NoMemory`.
-    #[tactic(auto, unfolding(mt_evaluation::specs::Expressions::conjunction))]
+    #[tactic(auto, unfolding(mt_eval_meaning::specs::Expressions::conjunction))]
     pub fn conjunction(
         &self,
         frame: &[Address],
@@ -175,7 +173,7 @@ impl<
     ///
     /// # Errors
     /// As the code says, and `NoMemory`.
-    #[tactic(auto, unfolding(mt_evaluation::specs::Expressions::disjunction))]
+    #[tactic(auto, unfolding(mt_eval_meaning::specs::Expressions::disjunction))]
     pub fn disjunction(
         &self,
         frame: &[Address],
@@ -201,7 +199,7 @@ impl<
     ///
     /// # Errors
     /// As the code says, and `NoMemory`.
-    #[tactic(auto, unfolding(mt_evaluation::specs::Expressions::conditional))]
+    #[tactic(auto, unfolding(mt_eval_meaning::specs::Expressions::conditional))]
     pub fn conditional(
         &self,
         frame: &[Address],
@@ -225,7 +223,7 @@ impl<
     ///
     /// # Errors
     /// As the code says, and `NoMemory`.
-    #[tactic(auto, unfolding(mt_evaluation::specs::Expressions::index))]
+    #[tactic(auto, unfolding(mt_eval_meaning::specs::Expressions::index))]
     pub fn index(
         &self,
         frame: &[Address],
@@ -247,7 +245,7 @@ impl<
     ///
     /// # Errors
     /// As the code says, and `NoMemory`.
-    #[tactic(auto, unfolding(mt_evaluation::specs::Expressions::assignment))]
+    #[tactic(auto, unfolding(mt_eval_meaning::specs::Expressions::assignment))]
     pub fn assignment(
         &self,
         frame: &[Address],
@@ -270,7 +268,7 @@ impl<
     ///
     /// # Errors
     /// As the code says, and `NoMemory`.
-    #[tactic(auto, unfolding(mt_evaluation::specs::Expressions::update))]
+    #[tactic(auto, unfolding(mt_eval_meaning::specs::Expressions::update))]
     pub fn update(
         &self,
         frame: &[Address],
@@ -296,7 +294,7 @@ impl<
     ///
     /// # Errors
     /// As the code says, and `NoMemory`.
-    #[tactic(auto, unfolding(mt_evaluation::specs::Expressions::count))]
+    #[tactic(auto, unfolding(mt_eval_meaning::specs::Expressions::count))]
     pub fn step(
         &self,
         frame: &[Address],

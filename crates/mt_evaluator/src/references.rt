@@ -1,17 +1,15 @@
 ghost use Rattle.std.specs.Prelude.{◌≡◌};
 ghost use Rattle.std.specs.Option.{option_copied};
-ghost use Rattle.mt_evaluation.specs.References as references;
-ghost use Rattle.mt_evaluation.specs.Runs.{Evals};
-ghost use Rattle.mt_evaluation.specs.State.{unmetered};
+ghost use Rattle.mt_eval_meaning.specs.References as references;
+ghost use Rattle.mt_eval_meaning.specs.Runs.{Evals};
+ghost use Rattle.mt_eval_meaning.specs.State.{unmetered};
 ghost use Rattle.mt_evaluator.specs.Nests.{Nests, rank};
-ghost use Rattle.mt_slots.specs.Slots as spec;
-ghost use Rattle.mt_slots.specs.Slots.{parts};
+ghost use Rattle.mt_eval_meaning.specs.Slots as spec;
+ghost use Rattle.mt_eval_meaning.specs.Slots.{parts};
 
 use crate::evaluator::Evaluator;
-use mt_evaluation::{Completion, Exit, Host, Reference, Referent, State};
-use mt_frames::referent;
-use mt_slots::{Expr, Function, Stmt};
-use mt_steps::{get_property, read_global, read_variable, set_property, write_name};
+use mt_eval_meaning::{Completion, Exit, Expr, Function, Host, Reference, Referent, State, Stmt};
+use mt_eval_steps::{get_property, read_global, read_variable, referent, set_property, write_name};
 use mt_tree::Text;
 use mt_value::{Address, Native, Value};
 use std::alloc::Global;
@@ -97,7 +95,7 @@ impl<
     ///
     /// # Errors
     /// As the tables of properties or the host say, and `NoMemory`.
-    #[tactic(auto, unfolding(mt_evaluation::specs::References::get))]
+    #[tactic(auto, unfolding(mt_eval_meaning::specs::References::get))]
     pub fn get(
         &self,
         state: &mut State,
@@ -130,7 +128,7 @@ impl<
         }
     }
 
-    #[tactic(auto, unfolding(mt_evaluation::specs::References::set))]
+    #[tactic(auto, unfolding(mt_eval_meaning::specs::References::set))]
     fn set(
         &self,
         state: &mut State,
@@ -158,7 +156,7 @@ impl<
     ///
     /// # Errors
     /// As the tables of properties or the host say, and `NoMemory`.
-    #[tactic(auto, unfolding(mt_evaluation::specs::State::unmetered))]
+    #[tactic(auto, unfolding(mt_eval_meaning::specs::State::unmetered))]
     pub fn read_free(
         &self,
         state: &mut State,
@@ -200,7 +198,7 @@ impl<
     ///
     /// # Errors
     /// As the code says, and `NoMemory`.
-    #[tactic(auto, unfolding(mt_slots::specs::Slots::target))]
+    #[tactic(auto, unfolding(mt_eval_meaning::specs::Slots::target))]
     pub fn target(
         &self,
         frame: &[Address],

@@ -1,12 +1,11 @@
 ghost use Rattle.std.specs.Prelude.{◌≤◌};
-ghost use Rattle.mt_evaluation.specs.Runs.{Evals};
+ghost use Rattle.mt_eval_meaning.specs.Runs.{Evals};
 ghost use Rattle.mt_evaluator.specs.Nests.{Nests, rank};
-ghost use Rattle.mt_slots.specs.Slots as spec;
-ghost use Rattle.mt_slots.specs.Slots.{parts};
+ghost use Rattle.mt_eval_meaning.specs.Slots as spec;
+ghost use Rattle.mt_eval_meaning.specs.Slots.{parts};
 
 use crate::evaluator::Evaluator;
-use mt_evaluation::{Completion, Exit, Host, State};
-use mt_slots::{Expr, Function, Stmt};
+use mt_eval_meaning::{Completion, Exit, Expr, Function, Host, State, Stmt};
 use mt_value::{Address, Value};
 use std::alloc::Global;
 

@@ -1,14 +1,14 @@
 -- What the call of the function in a cell is.
 use Rattle.std.proofs.Common.{◌≡◌, ℕ, zero, suc, ◌-◌, ◌<◌, List, Some, None, refl, ap, ◌∙◌, arith, slice_get}
-use Rattle.mt_evaluation.specs.Host.{Meaning}
-use Rattle.mt_evaluation.specs.Runs.{leaves}
-use Rattle.mt_evaluation.specs.State.{Eval, on_state, throw}
-use Rattle.mt_evaluation.specs.declared.exit.Exit.TheVariants as exit
-use Rattle.mt_evaluation.specs.declared.exit.Stop.TheVariants as stop
-use Rattle.mt_evaluation.specs.declared.state.State.{State}
+use Rattle.mt_eval_meaning.specs.Host.{Meaning}
+use Rattle.mt_eval_meaning.specs.Runs.{leaves}
+use Rattle.mt_eval_meaning.specs.State.{Eval, on_state, throw}
+use Rattle.mt_eval_meaning.specs.declared.exit.Exit.TheVariants as exit
+use Rattle.mt_eval_meaning.specs.declared.exit.Stop.TheVariants as stop
+use Rattle.mt_eval_meaning.specs.declared.state.State.{State}
 use Rattle.mt_ops.specs.declared.error.ErrorKind.TheVariants as error
-use Rattle.mt_slots.specs.Slots.{function_body, function_in, with_function, entered_by, parts}
-use Rattle.mt_slots.specs.declared.function.Function.{Function}
+use Rattle.mt_eval_meaning.specs.Slots.{function_body, function_in, with_function, entered_by, parts}
+use Rattle.mt_eval_meaning.specs.declared.function.Function.{Function}
 use Rattle.mt_value.specs.declared.cell.FunCell.{FunCell}
 use Rattle.mt_value.specs.declared.value.Value.{Value}
 use Rattle.mt_tree.specs.Limits.{depth_limit}

@@ -1,16 +1,16 @@
 -- What the evaluation of an expression with a list of parts is.
 use Rattle.std.proofs.Common.{◌≡◌, ℕ, List, map, rules, sym, ap, ◌∙◌}
-use Rattle.mt_evaluation.specs.Calls as calls
-use Rattle.mt_evaluation.specs.Expressions as forms
-use Rattle.mt_evaluation.specs.declared.state.State.{State}
-use Rattle.mt_slots.specs.Slots.{Parts, expr, expr_at, exprs, entry, attribute, piece, callee}
-use Rattle.mt_slots.specs.declared.expr.Attribute.{Attribute}
-use Rattle.mt_slots.specs.declared.expr.Entry.{Entry}
-use Rattle.mt_slots.specs.declared.expr.Expr as code
-use Rattle.mt_slots.specs.declared.expr.Expr.{Expr, out-Expr, the_lemmas}
-use Rattle.mt_slots.specs.declared.expr.Expr.TheOpen.{Expr-F}
-use Rattle.mt_slots.specs.declared.expr.Piece.{Piece}
-use Rattle.mt_slots.specs.declared.function.Function.{Function}
+use Rattle.mt_eval_meaning.specs.Calls as calls
+use Rattle.mt_eval_meaning.specs.Expressions as forms
+use Rattle.mt_eval_meaning.specs.declared.state.State.{State}
+use Rattle.mt_eval_meaning.specs.Slots.{Parts, expr, expr_at, exprs, entry, attribute, piece, callee}
+use Rattle.mt_eval_meaning.specs.declared.expr.Attribute.{Attribute}
+use Rattle.mt_eval_meaning.specs.declared.expr.Entry.{Entry}
+use Rattle.mt_eval_meaning.specs.declared.expr.Expr as code
+use Rattle.mt_eval_meaning.specs.declared.expr.Expr.{Expr, out-Expr, the_lemmas}
+use Rattle.mt_eval_meaning.specs.declared.expr.Expr.TheOpen.{Expr-F}
+use Rattle.mt_eval_meaning.specs.declared.expr.Piece.{Piece}
+use Rattle.mt_eval_meaning.specs.declared.function.Function.{Function}
 
 array_layer : (items : List Expr) → out-Expr (code.Arr items) ≡ Expr-F.Arr items
 array_layer items = search (rules, the_lemmas)

@@ -1,18 +1,16 @@
 ghost use Rattle.std.specs.Prelude.{◌≡◌, ◌≤◌, ◌<◌, ◌-◌, IfOk, slice_get};
 ghost use Rattle.std.specs.Option.{option_copied};
-ghost use Rattle.mt_evaluation.specs.Statements as statements;
-ghost use Rattle.mt_evaluation.specs.Runs.{Evals};
+ghost use Rattle.mt_eval_meaning.specs.Statements as statements;
+ghost use Rattle.mt_eval_meaning.specs.Runs.{Evals};
 ghost use Rattle.mt_evaluator.specs.Nests.{Nests, rank};
-ghost use Rattle.mt_slots.specs.Slots as spec;
-ghost use Rattle.mt_slots.specs.Slots.{parts};
+ghost use Rattle.mt_eval_meaning.specs.Slots as spec;
+ghost use Rattle.mt_eval_meaning.specs.Slots.{parts};
 ghost use Rattle.mt_tree.specs.Limits.{depth_limit};
 
 use crate::expressions::Expressions;
-use mt_evaluation::{Completion, Exit, Host, State, Stop};
-use mt_frames::{copied, enter_function};
+use mt_eval_meaning::{Completion, Exit, Expr, Function, Host, State, Stmt, Stop};
+use mt_eval_steps::{copied, enter_function, throw};
 use mt_ops::ErrorKind;
-use mt_slots::{Expr, Function, Stmt};
-use mt_steps::throw;
 use mt_tree::{DEPTH_LIMIT, NoMemory};
 use mt_value::{Address, Cell, FunCell, Store, Value};
 use std::alloc::Global;
@@ -77,7 +75,7 @@ impl<
     ///
     /// # Errors
     /// As the code says, and `NoMemory`.
-    #[tactic(auto, unfolding(mt_slots::specs::Slots::body))]
+    #[tactic(auto, unfolding(mt_eval_meaning::specs::Slots::body))]
     pub fn body(
         &self,
         calls: usize,
@@ -97,7 +95,7 @@ impl<
         Ok(returned(ending))
     }
 
-    #[tactic(auto, unfolding(mt_evaluation::specs::State::throw))]
+    #[tactic(auto, unfolding(mt_eval_meaning::specs::State::throw))]
     fn run(
         &self,
         state: &mut State,
@@ -137,7 +135,7 @@ impl<
     ///
     /// # Errors
     /// `Throw` exactly where there is none, else the stop `Depth` exactly where no call is left, else as the code says, and `NoMemory`.
-    #[tactic(auto, unfolding(mt_evaluation::specs::State::throw), using(crate::proofs::Enters::no_function, crate::proofs::Enters::no_call, crate::proofs::Enters::one_call))]
+    #[tactic(auto, unfolding(mt_eval_meaning::specs::State::throw), using(crate::proofs::Enters::no_function, crate::proofs::Enters::no_call, crate::proofs::Enters::one_call))]
     pub fn enter(
         &self,
         state: &mut State,

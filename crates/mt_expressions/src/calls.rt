@@ -1,18 +1,17 @@
 ghost use Rattle.std.specs.Prelude.{◌≡◌};
 ghost use Rattle.std.specs.Option.{option_copied};
-ghost use Rattle.mt_evaluation.specs.Calls as calls;
-ghost use Rattle.mt_evaluation.specs.Runs.{Evals};
+ghost use Rattle.mt_eval_meaning.specs.Calls as calls;
+ghost use Rattle.mt_eval_meaning.specs.Runs.{Evals};
 ghost use Rattle.mt_evaluator.specs.Nests.{Nests, rank};
-ghost use Rattle.mt_slots.specs.Slots as spec;
-ghost use Rattle.mt_slots.specs.Slots.{parts};
+ghost use Rattle.mt_eval_meaning.specs.Slots as spec;
+ghost use Rattle.mt_eval_meaning.specs.Slots.{parts};
 
 use crate::expressions::Expressions;
-use mt_evaluation::{Callee, Completion, Exit, Host, State};
+use mt_eval_meaning::{Callee, Completion, Exit, Expr, Function, Host, State, Stmt};
+use mt_eval_steps::{plain_method, spend, throw};
 use mt_evaluator::is_hosted;
 use mt_ops::ErrorKind;
-use mt_properties::property_cost;
-use mt_slots::{Expr, Function, Stmt};
-use mt_steps::{plain_method, spend, throw};
+use mt_ops_properties::property_cost;
 use mt_tree::Text;
 use mt_value::{Address, Value};
 use std::alloc::Global;
@@ -77,7 +76,7 @@ impl<
         }
     }
 
-    #[tactic(auto, unfolding(mt_evaluation::specs::Calls::member_callee))]
+    #[tactic(auto, unfolding(mt_eval_meaning::specs::Calls::member_callee))]
     fn member_callee(
         &self,
         frame: &[Address],
@@ -95,7 +94,7 @@ impl<
         self.member_by(state, host, name, base.share()?, &key)
     }
 
-    #[tactic(auto, unfolding(mt_evaluation::specs::Calls::plain_callee))]
+    #[tactic(auto, unfolding(mt_eval_meaning::specs::Calls::plain_callee))]
     fn plain_callee(
         &self,
         frame: &[Address],
@@ -110,7 +109,7 @@ impl<
         Ok(Callee::Function(f))
     }
 
-    #[tactic(auto, unfolding(mt_slots::specs::Slots::callee))]
+    #[tactic(auto, unfolding(mt_eval_meaning::specs::Slots::callee))]
     fn callee(
         &self,
         frame: &[Address],
@@ -131,7 +130,7 @@ impl<
     ///
     /// # Errors
     /// `Throw` exactly where it is nothing that may be called, else as the call says, and `NoMemory`.
-    #[tactic(auto, unfolding(mt_evaluation::specs::State::throw))]
+    #[tactic(auto, unfolding(mt_eval_meaning::specs::State::throw))]
     pub fn applied(
         &self,
         state: &mut State,
@@ -150,7 +149,7 @@ impl<
         }
     }
 
-    #[tactic(auto, unfolding(mt_evaluation::specs::Calls::applied_function))]
+    #[tactic(auto, unfolding(mt_eval_meaning::specs::Calls::applied_function))]
     fn applied_function(
         &self,
         state: &mut State,
@@ -165,7 +164,7 @@ impl<
         self.applied(state, host, f, arguments)
     }
 
-    #[tactic(auto, unfolding(mt_evaluation::specs::Calls::hosted_method))]
+    #[tactic(auto, unfolding(mt_eval_meaning::specs::Calls::hosted_method))]
     fn hosted_call(
         &self,
         state: &mut State,
@@ -201,7 +200,7 @@ impl<
         }
     }
 
-    #[tactic(auto, unfolding(mt_evaluation::specs::Calls::call))]
+    #[tactic(auto, unfolding(mt_eval_meaning::specs::Calls::call))]
     pub(crate) fn call(
         &self,
         frame: &[Address],

@@ -1,12 +1,11 @@
 ghost use Rattle.std.specs.Option.{option_copied};
-ghost use Rattle.mt_evaluation.specs.Runs.{Evals};
+ghost use Rattle.mt_eval_meaning.specs.Runs.{Evals};
 ghost use Rattle.mt_evaluator.specs.Nests.{Nests, rank};
-ghost use Rattle.mt_slots.specs.Slots as spec;
-ghost use Rattle.mt_slots.specs.Slots.{parts};
+ghost use Rattle.mt_eval_meaning.specs.Slots as spec;
+ghost use Rattle.mt_eval_meaning.specs.Slots.{parts};
 
 use crate::expressions::Expressions;
-use mt_evaluation::{Completion, Exit, Host, State};
-use mt_slots::{Expr, Function, Stmt};
+use mt_eval_meaning::{Completion, Exit, Expr, Function, Host, State, Stmt};
 use mt_tree::Binary;
 use mt_value::{Address, Value};
 use std::alloc::Global;
@@ -57,7 +56,7 @@ impl<
     ///
     /// # Errors
     /// As the code says, and `NoMemory`.
-    #[tactic(auto, unfolding(mt_slots::specs::Slots::expr))]
+    #[tactic(auto, unfolding(mt_eval_meaning::specs::Slots::expr))]
     pub fn node(
         &self,
         frame: &[Address],

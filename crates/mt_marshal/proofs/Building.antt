@@ -6,10 +6,10 @@ use Rattle.std.proofs.lemmas.Bool.{and_parts}
 use Rattle.std.proofs.lemmas.List.{length-map}
 use Rattle.std.proofs.lemmas.List.Sums.{sum_by-cons}
 use Rattle.std.proofs.lemmas.List.Elements.{All-cons, All-nil, All-weaker}
-use Rattle.mt_data_cells.specs.Entries.{build_entry}
+use Rattle.mt_eval_steps.specs.Entries.{build_entry}
 use Rattle.mt_marshal.proofs.Parts.{Tested, fits_level, fits_step, tested, tested_level}
 use Rattle.mt_marshal.specs.Lawful.{Stays}
-use Rattle.mt_evaluation.specs.Building.{Built, build, built_plain, built_all, built_array, built_object, data_step, entry_step}
+use Rattle.mt_eval_meaning.specs.Building.{Built, build, built_plain, built_all, built_array, built_object, data_step, entry_step}
 use Rattle.mt_syntax.specs.DataLimits.{entry_value_step, nodes_of_data, nodes_of_entry, nodes_step}
 use Rattle.mt_tree.specs.declared.data.Data.{Data, roll-Data}
 use Rattle.mt_tree.specs.declared.data.Data.TheFolds.{ind-Data, map-Data, map-Entry, fold-roll-Data, fold-roll-Entry}

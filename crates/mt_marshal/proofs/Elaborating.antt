@@ -3,11 +3,11 @@ use Rattle.std.proofs.Common.{◌≡◌, ℕ, ◌-◌, ◌≤◌, min, nat_le, B
 use Rattle.std.specs.Prelude.{All, Result, Ok, Err, IfOk, IsTrue, if◌then◌else◌}
 use Rattle.std.proofs.lemmas.List.{length-map, append-nil}
 use Rattle.std.proofs.lemmas.List.Folds.{list_all-map}
-use Rattle.mt_evaluation.specs.Host.{added_cell, answered, seen, seen_cell}
-use Rattle.mt_evaluation.specs.declared.exit.Done.{Done}
-use Rattle.mt_evaluation.specs.declared.exit.Done.TheVariants as done
-use Rattle.mt_evaluation.specs.declared.exit.Stop.{Stop}
-use Rattle.mt_evaluation.specs.declared.exit.Stop.TheVariants as stop
+use Rattle.mt_eval_meaning.specs.Host.{added_cell, answered, seen, seen_cell}
+use Rattle.mt_eval_meaning.specs.declared.exit.Done.{Done}
+use Rattle.mt_eval_meaning.specs.declared.exit.Done.TheVariants as done
+use Rattle.mt_eval_meaning.specs.declared.exit.Stop.{Stop}
+use Rattle.mt_eval_meaning.specs.declared.exit.Stop.TheVariants as stop
 use Rattle.mt_marshal.proofs.Building.{names_last}
 use Rattle.mt_marshal.proofs.Measures.{all_fit, data_fit}
 use Rattle.mt_marshal.proofs.Seen.{seen_walked}

@@ -18,7 +18,7 @@ use Rattle.mt_marshal.specs.declared.counts.Counts.{Counts}
 use Rattle.mt_marshal.specs.declared.refusal.Refused.{Refused}
 use Rattle.mt_marshal.specs.declared.rule.MarshalRule.{MarshalRule}
 use Rattle.mt_marshal.specs.declared.rule.MarshalRule.TheVariants as rule
-use Rattle.mt_methods.specs.Costs.{counted}
+use Rattle.mt_ops_methods.specs.Costs.{counted}
 use Rattle.mt_syntax.specs.Data.{is_data, are_property_names}
 use Rattle.mt_syntax.specs.DataLimits.{AreWithinLimits, bytes_of_data, bytes_of_entry, depth_of_data, depth_of_entry, nodes_of_data, nodes_of_entry, text_bytes}
 use Rattle.mt_syntax.specs.Depth.{greatest}

@@ -3,13 +3,13 @@ use Rattle.std.proofs.Common.{◌≡◌, ℕ, zero, suc, ◌+◌, List, [], ◌�
 use Rattle.std.specs.Prelude.{Result, slice_get, sum}
 use Rattle.std.specs.Option.{option_map}
 use Rattle.std.proofs.lemmas.Option.{slice_get-map}
-use Rattle.mt_evaluation.specs.Host.{seen, seen_cell}
+use Rattle.mt_eval_meaning.specs.Host.{seen, seen_cell}
 use Rattle.mt_marshal.specs.Rules.{broken, bytes_of, items_in, name_bytes, properties_in}
 use Rattle.mt_marshal.specs.Snapshot.{array, datum, enter, entry, inside, node, nothing, object, too_deep, unless, walked}
 use Rattle.mt_marshal.specs.Walks.{Walk, ◌>>=◌, all, pure}
 use Rattle.mt_marshal.specs.declared.counts.Counts.{Counts}
 use Rattle.mt_marshal.specs.declared.refusal.Refused.{Refused}
-use Rattle.mt_methods.specs.Costs.{counted}
+use Rattle.mt_ops_methods.specs.Costs.{counted}
 use Rattle.mt_tree.specs.declared.data.Data.{Data}
 use Rattle.mt_tree.specs.declared.data.Data as «data»
 use Rattle.mt_value.specs.declared.cell.Cell.{Cell}

@@ -18,9 +18,9 @@ use Rattle.mt_value.specs.declared.cell.Cell.TheVariants as cell
 use Rattle.mt_value.specs.declared.cell.Property.{Property}
 use Rattle.mt_value.specs.declared.value.Value.{Value}
 use Rattle.mt_value.specs.declared.value.Value.TheVariants as value
-use Rattle.mt_methods.specs.Costs.{counted}
-use Rattle.mt_evaluation.specs.Building.{Built, build, built_all, built_array, built_object, data_step, entry_step}
-use Rattle.mt_data_cells.specs.Entries.{build_entry}
+use Rattle.mt_ops_methods.specs.Costs.{counted}
+use Rattle.mt_eval_meaning.specs.Building.{Built, build, built_all, built_array, built_object, data_step, entry_step}
+use Rattle.mt_eval_steps.specs.Entries.{build_entry}
 use Rattle.mt_marshal.specs.Rules.{bytes_of, is_callable, is_html, is_nested, is_opaque, items_in, name_bytes, properties_in, stands_on}
 use Rattle.mt_marshal.specs.Snapshot.{At, array, array_at, data_alone, datum, enter, entry, inside, node, nothing, object, object_at, plain, snap}
 use Rattle.mt_marshal.specs.Walks.{all_behind, and_then, pure}

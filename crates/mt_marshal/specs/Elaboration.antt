@@ -1,11 +1,11 @@
 -- What holds the data of values, as they are at this moment: client code, of the number of a tilde and of the values of its dollars, and a
 -- frame, of the name of a service and of its arguments. A job pays for the walk.
 use Rattle.std.specs.Prelude.{ℕ, ◌+◌, ◌-◌, ◌/◌, nat_le, List, [], ◌∷◌, length, if◌then◌else◌, Result, Ok, Err}
-use Rattle.mt_evaluation.specs.Host.{Added, Answering}
-use Rattle.mt_evaluation.specs.Host.Added.{code, frame}
-use Rattle.mt_evaluation.specs.declared.exit.Done.{Done}
-use Rattle.mt_evaluation.specs.declared.exit.Done.TheVariants as done
-use Rattle.mt_evaluation.specs.declared.exit.Stop.TheVariants as stop
+use Rattle.mt_eval_meaning.specs.Host.{Added, Answering}
+use Rattle.mt_eval_meaning.specs.Host.Added.{code, frame}
+use Rattle.mt_eval_meaning.specs.declared.exit.Done.{Done}
+use Rattle.mt_eval_meaning.specs.declared.exit.Done.TheVariants as done
+use Rattle.mt_eval_meaning.specs.declared.exit.Stop.TheVariants as stop
 use Rattle.mt_marshal.specs.Rules.{number_of}
 use Rattle.mt_marshal.specs.Snapshot.{walked}
 use Rattle.mt_marshal.specs.declared.counts.Counts.{Counts}

@@ -1,7 +1,7 @@
 -- What is built on a lawful store, and what a call answers there.
 use Rattle.std.specs.Prelude.{List}
-use Rattle.mt_evaluation.specs.declared.exit.Done.{Done}
-use Rattle.mt_evaluation.specs.declared.exit.Done.TheVariants as done
+use Rattle.mt_eval_meaning.specs.declared.exit.Done.{Done}
+use Rattle.mt_eval_meaning.specs.declared.exit.Done.TheVariants as done
 use Rattle.mt_value.specs.Lawful.{Keeps, Lawful, LawfulValue}
 use Rattle.mt_value.specs.declared.cell.Cell.{Cell}
 

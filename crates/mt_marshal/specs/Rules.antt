@@ -4,7 +4,7 @@ use Rattle.std.specs.List.{list_any}
 use Rattle.mt_marshal.specs.declared.counts.Counts.{Counts}
 use Rattle.mt_marshal.specs.declared.rule.MarshalRule.{MarshalRule}
 use Rattle.mt_marshal.specs.declared.rule.MarshalRule.TheVariants as rule
-use Rattle.mt_methods.specs.Costs.{counted}
+use Rattle.mt_ops_methods.specs.Costs.{counted}
 use Rattle.mt_syntax.specs.DataLimits.{text_bytes}
 use Rattle.mt_value.specs.declared.cell.Cell.{Cell}
 use Rattle.mt_value.specs.declared.cell.Cell.TheVariants as cell

@@ -1,7 +1,7 @@
 ghost use Rattle.std.specs.Prelude.{◌≡◌, map, sum};
 ghost use Rattle.mt_marshal.specs.Rules.{bytes_of, met, name_bytes};
 ghost use Rattle.mt_marshal.specs.declared.refusal.Refused.TheVariants as refused;
-ghost use Rattle.mt_methods.specs.Costs.{counted};
+ghost use Rattle.mt_ops_methods.specs.Costs.{counted};
 ghost use Rattle.mt_syntax.specs.DataLimits.{text_bytes};
 
 use crate::cells::properties_at;

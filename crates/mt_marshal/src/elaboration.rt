@@ -1,12 +1,12 @@
 ghost use Rattle.std.specs.Prelude.{◌≡◌, All, IfOk, IsTrue};
-ghost use Rattle.mt_evaluation.specs.Host.{answered, seen};
+ghost use Rattle.mt_eval_meaning.specs.Host.{answered, seen};
 ghost use Rattle.mt_marshal.specs.Elaboration.{elaborated, framed};
 ghost use Rattle.mt_marshal.specs.Lawful.{LawfulDone, Stays};
 ghost use Rattle.mt_value.specs.Lawful.{Lawful, LawfulValue};
 ghost use Rattle.mt_value.specs.Limits.{text_fits};
 
 use crate::paying::{Paid, snapped};
-use mt_evaluation::{Budget, Done};
+use mt_eval_meaning::{Budget, Done};
 use mt_tree::{Closure, NoMemory, Text};
 use mt_value::{Cell, FrameCell, Store, Value};
 use std::alloc::Global;

@@ -1,6 +1,6 @@
 ghost use Rattle.std.specs.Prelude.{◌≡◌, ◌<◌, ◌^◌, List, IsTrue, map, true, Ok};
 ghost use Rattle.std.specs.List.{list_all};
-ghost use Rattle.mt_evaluation.specs.Building.{build, built_all};
+ghost use Rattle.mt_eval_meaning.specs.Building.{build, built_all};
 ghost use Rattle.mt_marshal.specs.Lawful.{Stays};
 ghost use Rattle.mt_marshal.specs.Snapshot.{snap};
 ghost use Rattle.mt_syntax.specs.DataLimits.{AreWithinLimits, nodes_of_data};

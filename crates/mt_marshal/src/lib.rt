@@ -20,7 +20,7 @@ pub use elaboration::{elaborate, frame};
 pub use laws::{
     built_data_are_lawful, built_data_are_their_snapshot, data_within_limits_can_be_built,
 };
-pub use mt_data_cells::build;
+pub use mt_eval_steps::build;
 pub use refusal::Refused;
 pub use rule::MarshalRule;
 pub use walk::snapshot;

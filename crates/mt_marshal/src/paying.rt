@@ -5,7 +5,7 @@ ghost use Rattle.mt_marshal.specs.Snapshot.{walked};
 use crate::counts::Counts;
 use crate::refusal::Refused;
 use crate::walk::{LEVELS, items};
-use mt_evaluation::{Budget, Stop};
+use mt_eval_meaning::{Budget, Stop};
 use mt_tree::{Data, NoMemory, Row};
 use mt_value::{Store, Value};
 use std::alloc::Global;

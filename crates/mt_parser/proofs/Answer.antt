@@ -7,9 +7,9 @@ use Rattle.mt_grammar.specs.Grammar.{IsProgram}
 use Rattle.mt_grammar.specs.Continues.{BeginsProgram}
 use Rattle.mt_grammar.specs.Depth.{too_deep_at}
 use Rattle.mt_grammar.proofs.Unique.{unique}
-use Rattle.mt_machine.specs.Refused.{IsOffending}
+use Rattle.mt_parser_machine.specs.Refused.{IsOffending}
 use Rattle.mt_syntax.specs.declared.program.Program.{Program}
-use Rattle.mt_builder.specs.Program.{program_of}
+use Rattle.mt_parser_builder.specs.Program.{program_of}
 use Rattle.mt_parser.specs.declared.refusal.ParseRefusal.{ParseRefusal}
 use Rattle.mt_parser.specs.declared.refusal.ParseRefusal.TheVariants.{Syntax, TooDeep, NoMemory}
 use Rattle.mt_parser.specs.Parsing.{Answers, IsAnswer, place_or}

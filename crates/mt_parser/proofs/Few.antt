@@ -5,10 +5,10 @@ use Rattle.std.proofs.lemmas.List.{length-map}
 use Rattle.mt_lexer.specs.declared.refusal.LexRefusal.{LexRefusal}
 use Rattle.mt_lexer.specs.declared.mode.Fault.{Fault}
 use Rattle.mt_lexer.specs.Tokens.{Mark, Spelled}
-use Rattle.mt_marks.specs.declared.token.Token.{Token as CodeToken}
-use Rattle.mt_marks.specs.Views.{tokens_of}
-use Rattle.mt_marks.specs.Tokens.{token_in, tokens_in}
-use Rattle.mt_machine.proofs.Turns.{length-tokens_of}
+use Rattle.mt_parser_marks.specs.declared.token.Token.{Token as CodeToken}
+use Rattle.mt_parser_marks.specs.Views.{tokens_of}
+use Rattle.mt_parser_marks.specs.Tokens.{token_in, tokens_in}
+use Rattle.mt_parser_machine.proofs.Turns.{length-tokens_of}
 use Rattle.mt_lexer.specs.Verdict.{Reads, reads_text, no_text, ended, marks_in, refusal_in}
 use Rattle.mt_tree.specs.Limits.{token_limit}
 

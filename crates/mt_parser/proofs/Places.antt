@@ -1,25 +1,30 @@
--- The place of a token by its number.
-use Rattle.std.proofs.Common.{◌≡◌, ℕ, zero, suc, ◌<◌, ◌≤◌, List, [], ◌∷◌, length, drop, slice_index_or, arith, refl, ap, ◌∙◌}
-use Rattle.mt_tree.specs.declared.place.Place.{Place}
-use Rattle.mt_marks.specs.declared.token.Token.{Token as CodeToken}
-use Rattle.mt_marks.specs.Views.{tokens_of}
-use Rattle.mt_grammar.specs.Token.{Tokens}
-use Rattle.mt_tree.specs.Place.{place_of}
-use Rattle.mt_parser.specs.Parsing.{place_or}
+-- A list that stands in another one from a place on.
+use Rattle.std.proofs.Common.{◌≡◌, ℕ, suc, ◌+◌, List, [], ◌∷◌, ◌++◌, length, Some, refl, sym, ap, ◌∙◌, subst, arith, append_assoc, length-append}
+use Rattle.std.specs.Prelude.{slice_get}
 
-pub placed : (ts : List CodeToken) (i : ℕ) (d : CodeToken) (end : Place) → i < length ts → (slice_index_or ts i d).mark.place ≡ place_or end (drop i (tokens_of ts))
-unfolding tokens_of
-placed [] i d end h = absurd (omega (arith, h))
-placed (t ∷ ts) zero d end h = refl
-placed (t ∷ ts) (suc i) d end h = placed ts i d end (omega (arith, h))
+-- these stand in the list, the first of them at the place
+abbrev pub Has : {T : Type 0} → List T → ℕ → List T → Type 0
+Has all at [] = Unit {0}
+Has all at (x ∷ xs) = (slice_get all at ≡ Some x) × Has all (at + 1) xs
 
-pub past : (ts : List CodeToken) (i : ℕ) (end : Place) → length ts ≤ i → end ≡ place_or end (drop i (tokens_of ts))
-unfolding tokens_of
-past [] zero end h = refl
-past [] (suc i) end h = refl
-past (t ∷ ts) zero end h = absurd (omega (arith, h))
-past (t ∷ ts) (suc i) end h = past ts i end (omega (arith, h))
+pub has_first : {T : Type 0} (all : List T) (at : ℕ) (xs ys : List T) → Has all at (xs ++ ys) → Has all at xs
+has_first all at [] ys h = tt
+has_first all at (x ∷ xs) ys h = (h.0, has_first all (at + 1) xs ys h.1)
 
-pub same_place : (p : Place) (source other : List ℕ) (n : ℕ) (ts us : Tokens) → p ≡ place_or (place_of source (length source)) (drop n ts) → source ≡ other → ts ≡ us
-    → p ≡ place_or (place_of other (length other)) (drop n us)
-same_place p source other n ts us e s t = e ∙ ap (λ (x : List ℕ). place_or (place_of x (length x)) (drop n ts)) s ∙ ap (λ (x : Tokens). place_or (place_of other (length other)) (drop n x)) t
+pub has_last : {T : Type 0} (all : List T) (at : ℕ) (xs ys : List T) → Has all at (xs ++ ys) → Has all (at + length xs) ys
+has_last all at [] ys h = let e : at ≡ at + 0 = omega arith in subst (λ n. Has all n ys) e h
+has_last all at (x ∷ xs) ys h = let e : (at + 1) + length xs ≡ at + suc (length xs) = omega arith in subst (λ n. Has all n ys) e (has_last all (at + 1) xs ys h.1)
+
+slice_get_behind : {T : Type 0} (front : List T) (x : T) (xs : List T) → slice_get (front ++ x ∷ xs) (length front) ≡ Some x
+slice_get_behind [] x xs = refl
+slice_get_behind (y ∷ front) x xs = slice_get_behind front x xs
+
+has_behind : {T : Type 0} (front xs all : List T) (at : ℕ) → all ≡ front ++ xs → at ≡ length front → Has all at xs
+has_behind front [] all at e h = tt
+has_behind front (x ∷ xs) all at e h =
+    let first : slice_get all at ≡ Some x = ap (λ l. slice_get l at) e ∙ ap (slice_get (front ++ x ∷ xs)) h ∙ slice_get_behind front x xs in
+    (first, has_behind (front ++ x ∷ []) xs all (at + 1) (e ∙ sym (append_assoc front (x ∷ []) xs)) (omega (arith, h, length-append front (x ∷ []))))
+
+-- a list has itself
+pub has_itself : {T : Type 0} (xs : List T) → Has xs 0 xs
+has_itself xs = has_behind [] xs xs 0 refl refl

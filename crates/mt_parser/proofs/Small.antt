@@ -5,12 +5,12 @@ use Rattle.mt_grammar.specs.Nodes.{stmts_nodes}
 use Rattle.mt_grammar.specs.Tree.{Stmts}
 use Rattle.mt_lexer.specs.Tokens.{Spelled}
 use Rattle.mt_lexer.specs.Verdict.{Reads}
-use Rattle.mt_machine.proofs.Turns.{length-tokens_of}
-use Rattle.mt_marks.specs.declared.token.Token.{Token}
-use Rattle.mt_marks.specs.Tokens.{tokens_in}
-use Rattle.mt_marks.specs.Views.{tokens_of}
-use Rattle.mt_nodes.specs.declared.node.Node.{Node}
-use Rattle.mt_nodes.specs.Views.{node_of, nodes_of}
+use Rattle.mt_parser_machine.proofs.Turns.{length-tokens_of}
+use Rattle.mt_parser_marks.specs.declared.token.Token.{Token}
+use Rattle.mt_parser_marks.specs.Tokens.{tokens_in}
+use Rattle.mt_parser_marks.specs.Views.{tokens_of}
+use Rattle.mt_parser_marks.specs.declared.node.Node.{Node}
+use Rattle.mt_parser_marks.specs.NodeViews.{node_of, nodes_of}
 use Rattle.mt_parser.proofs.Few.{few_list}
 
 length-nodes_of : (ns : List Node) → length (nodes_of ns) ≡ length ns

@@ -1,18 +1,18 @@
 ghost use Rattle.std.specs.Prelude.{◌≡◌, Ok, ◌≤◌, length, drop};
 ghost use Rattle.mt_lexer.specs.Verdict.{Reads};
-ghost use Rattle.mt_marks.specs.Tokens.{tokens_in};
+ghost use Rattle.mt_parser_marks.specs.Tokens.{tokens_in};
 ghost use Rattle.mt_tree.specs.Place.{place_of};
 ghost use Rattle.mt_parser.specs.Parsing.{Answers, place_or};
-ghost use Rattle.mt_marks.specs.Views as marks;
+ghost use Rattle.mt_parser_marks.specs.Views as marks;
 ghost use Rattle.mt_tree.specs.Limits.{source_limit};
 
+use crate::first_too_deep;
 use crate::refusal::ParseRefusal;
-use mt_builder::{build, nodes_are_few};
-use mt_depth::first_too_deep;
 use mt_grammar::read_is_derived;
 use mt_lexer::Tokens;
-use mt_machine::{ReadRefusal, read, refused_is_offending};
-use mt_marks::{Token, end_place, tokens_of};
+use mt_parser_builder::{build, nodes_are_few};
+use mt_parser_machine::{ReadRefusal, read, refused_is_offending};
+use mt_parser_marks::{Token, end_place, tokens_of};
 use mt_syntax::Program;
 use mt_tree::{DEPTH_LIMIT, Place};
 use std::alloc::Global;

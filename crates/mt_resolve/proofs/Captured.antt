@@ -1,24 +1,24 @@
 -- On an empty store a service captures the addresses that the environment of the file's top gives to the names free in it.
 use Rattle.std.proofs.Common.{◌≡◌, ℕ, List, [], ◌∷◌, map, None, Bool, true, false, cond, refl, sym, ap, ◌∙◌}
-use Rattle.mt_agreement.specs.Agreement.{StartsAs, start_environment, without_functions}
-use Rattle.mt_agreement.specs.Code.{AllStand}
-use Rattle.mt_agreement.specs.Free.{Names, has, without, cut, free_of}
-use Rattle.mt_agreement.specs.Scopes.{Slot, Scope, body_entry}
-use Rattle.mt_agreement.specs.States.{Numbered}
-use Rattle.mt_agreement.proofs.Whole.{start_law}
-use Rattle.mt_evaluation.specs.Entering.{Named}
-use Rattle.mt_evaluation.specs.Evaluation.{file}
-use Rattle.mt_evaluation.specs.Hoisting.{services}
-use Rattle.mt_evaluation.specs.Host.{Meaning}
-use Rattle.mt_evaluation.specs.Names.{Binding, Environment}
-use Rattle.mt_evaluation.specs.Runs.{Ran, gives, leaves}
-use Rattle.mt_evaluation.specs.declared.state.State.{State}
+use Rattle.mt_eval_meaning.specs.Agreement.{StartsAs, start_environment, without_functions}
+use Rattle.mt_eval_meaning.specs.Code.{AllStand}
+use Rattle.mt_eval_meaning.specs.Free.{Names, has, without, cut, free_of}
+use Rattle.mt_eval_meaning.specs.Scopes.{Slot, Scope, body_entry}
+use Rattle.mt_eval_meaning.specs.States.{Numbered}
+use Rattle.mt_eval_agreement.proofs.Whole.{start_law}
+use Rattle.mt_eval_meaning.specs.Entering.{Named}
+use Rattle.mt_eval_meaning.specs.Evaluation.{file}
+use Rattle.mt_eval_meaning.specs.Hoisting.{services}
+use Rattle.mt_eval_meaning.specs.Host.{Meaning}
+use Rattle.mt_eval_meaning.specs.Names.{Binding, Environment}
+use Rattle.mt_eval_meaning.specs.Runs.{Ran, gives, leaves}
+use Rattle.mt_eval_meaning.specs.declared.state.State.{State}
 use Rattle.mt_resolve.specs.Captured.{CapturesIn}
 use Rattle.mt_resolve.specs.Resolved.{ProgramStands, ServiceStands, around_file}
 use Rattle.mt_resolve.specs.Services.{Contents}
 use Rattle.mt_resolve.specs.declared.service.Service.{Service}
-use Rattle.mt_slots.specs.Slots as slots
-use Rattle.mt_slots.specs.declared.function.Function.{Function}
+use Rattle.mt_eval_meaning.specs.Slots as slots
+use Rattle.mt_eval_meaning.specs.declared.function.Function.{Function}
 use Rattle.mt_syntax.specs.declared.program.Program.{Program}
 use Rattle.mt_syntax.specs.declared.program.Tilde.{Tilde}
 use Rattle.mt_syntax.specs.declared.tree.Function.{Function as SyntaxFunction}

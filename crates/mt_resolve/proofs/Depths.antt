@@ -2,8 +2,8 @@
 use Rattle.std.proofs.Common.{◌≡◌, ℕ, zero, suc, ◌≤◌, max, List, [], ◌∷◌, map, Option, None, Some, sym, ap, ◌∙◌, subst, arith}
 use Rattle.std.proofs.lemmas.Bool.Decides.{nat_tests}
 use Rattle.std.specs.Prelude.{slice_get}
-use Rattle.mt_evaluation.specs.Evaluation.{dollars_of, expr_kind_of}
-use Rattle.mt_evaluation.specs.Hoisting.{kind_of}
+use Rattle.mt_eval_meaning.specs.Evaluation.{dollars_of, expr_kind_of}
+use Rattle.mt_eval_meaning.specs.Hoisting.{kind_of}
 use Rattle.mt_syntax.specs.Depth.{depth_of, depth_of_kind, greatest, measuring, nothing}
 use Rattle.mt_syntax.specs.Fold.{Every, Steps, Tree, ExprKindLayer, ForStartLayer, MarkupChildLayer, MarkupValueLayer, StmtKindLayer, on_decl, on_expr, on_expr_kind, on_for_start, on_function, on_markup, on_markup_attribute, on_markup_child, on_markup_value, on_prop, on_stmt, on_stmt_kind}
 use Rattle.mt_syntax_laws.proofs.Layers.{map_expr_kind, map_for_start, map_markup_child, map_markup_value, map_stmt_kind, map_decl}

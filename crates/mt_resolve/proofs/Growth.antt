@@ -1,28 +1,28 @@
 -- Code that stands for syntax goes on to do so as functions are added, and to any greater depth.
 use Rattle.std.proofs.Common.{ℕ, zero, suc, ◌+◌, ◌≤◌, List, [], ◌∷◌, ◌++◌, length, Option, Some, None, false, arith}
 use Rattle.std.specs.Prelude.{slice_get}
-use Rattle.mt_agreement.specs.Code.{AllStand, OptionalStands, FunctionStands, PieceStandsForValue, AttributeStands, PieceStandsForChild, EntryStands, ExprStands, DeclStands, StartStands, block_scope, StmtStands, ExprStandsTo, StmtStandsTo, HoistedStands, BodyStands, CodeStands}
-use Rattle.mt_agreement.specs.Scopes.{Scope, body_entry, with_name}
-use Rattle.mt_agreement.specs.States.{Numbered}
-use Rattle.mt_evaluation.specs.Evaluation.{dollars_of, expr_kind_of}
-use Rattle.mt_evaluation.specs.Hoisting.{functions, kind_of, names_of}
-use Rattle.mt_evaluation.specs.Names.{Surroundings}
+use Rattle.mt_eval_meaning.specs.Code.{AllStand, OptionalStands, FunctionStands, PieceStandsForValue, AttributeStands, PieceStandsForChild, EntryStands, ExprStands, DeclStands, StartStands, block_scope, StmtStands, ExprStandsTo, StmtStandsTo, HoistedStands, BodyStands, CodeStands}
+use Rattle.mt_eval_meaning.specs.Scopes.{Scope, body_entry, with_name}
+use Rattle.mt_eval_meaning.specs.States.{Numbered}
+use Rattle.mt_eval_meaning.specs.Evaluation.{dollars_of, expr_kind_of}
+use Rattle.mt_eval_meaning.specs.Hoisting.{functions, kind_of, names_of}
+use Rattle.mt_eval_meaning.specs.Names.{Surroundings}
 use Rattle.mt_resolve.specs.Resolved.{Extends, ServiceStands}
 use Rattle.mt_resolve.specs.declared.service.Service.{Service}
-use Rattle.mt_slots.specs.Slots.{ExprLayer, PieceLayer, StmtLayer}
-use Rattle.mt_slots.specs.declared.expr.Attribute.{Attribute, out-Attribute}
-use Rattle.mt_slots.specs.declared.expr.Entry.{Entry, out-Entry}
-use Rattle.mt_slots.specs.declared.expr.Expr.{Expr, out-Expr}
-use Rattle.mt_slots.specs.declared.expr.Expr.TheOpen.{Expr-F, Piece-F}
-use Rattle.mt_slots.specs.declared.expr.Piece.{out-Piece}
-use Rattle.mt_slots.specs.declared.function.Body.{Body}
-use Rattle.mt_slots.specs.declared.function.Function.{Function}
-use Rattle.mt_slots.specs.declared.function.Hoisted.{Hoisted}
-use Rattle.mt_slots.specs.declared.stmt.Decl.{Decl}
-use Rattle.mt_slots.specs.declared.stmt.ForStart.{ForStart}
-use Rattle.mt_slots.specs.declared.stmt.ForStart.TheVariants as start
-use Rattle.mt_slots.specs.declared.stmt.Stmt.{Stmt, out-Stmt}
-use Rattle.mt_slots.specs.declared.stmt.Stmt.TheOpen.{Stmt-F}
+use Rattle.mt_eval_meaning.specs.Slots.{ExprLayer, PieceLayer, StmtLayer}
+use Rattle.mt_eval_meaning.specs.declared.expr.Attribute.{Attribute, out-Attribute}
+use Rattle.mt_eval_meaning.specs.declared.expr.Entry.{Entry, out-Entry}
+use Rattle.mt_eval_meaning.specs.declared.expr.Expr.{Expr, out-Expr}
+use Rattle.mt_eval_meaning.specs.declared.expr.Expr.TheOpen.{Expr-F, Piece-F}
+use Rattle.mt_eval_meaning.specs.declared.expr.Piece.{out-Piece}
+use Rattle.mt_eval_meaning.specs.declared.function.Body.{Body}
+use Rattle.mt_eval_meaning.specs.declared.function.Function.{Function}
+use Rattle.mt_eval_meaning.specs.declared.function.Hoisted.{Hoisted}
+use Rattle.mt_eval_meaning.specs.declared.stmt.Decl.{Decl}
+use Rattle.mt_eval_meaning.specs.declared.stmt.ForStart.{ForStart}
+use Rattle.mt_eval_meaning.specs.declared.stmt.ForStart.TheVariants as start
+use Rattle.mt_eval_meaning.specs.declared.stmt.Stmt.{Stmt, out-Stmt}
+use Rattle.mt_eval_meaning.specs.declared.stmt.Stmt.TheOpen.{Stmt-F}
 use Rattle.mt_syntax.specs.Fold.{Tree, ExprKindLayer, ForStartLayer, MarkupChildLayer, MarkupValueLayer, StmtKindLayer}
 use Rattle.mt_syntax.specs.declared.tree.Decl.{Decl as SyntaxDecl, out-Decl}
 use Rattle.mt_syntax.specs.declared.tree.Expr.{Expr as SyntaxExpr}

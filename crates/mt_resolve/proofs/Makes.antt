@@ -1,28 +1,28 @@
 -- Resolved code stands for the syntax that it was made of.
 use Rattle.std.proofs.Common.{◌≡◌, ℕ, zero, suc, ◌≤◌, List, [], ◌∷◌, ◌++◌, length, map, Option, Some, None, refl, sym, ap, ap₂, ◌∙◌, subst, arith, append_assoc}
 use Rattle.std.proofs.lemmas.List.{append-nil}
-use Rattle.mt_agreement.specs.Code.{AllStand, BodyStands, FileStands, ClientCodeStands, HoistedStands}
-use Rattle.mt_agreement.specs.Scopes.{Scope, body_entry, with_lexicals}
-use Rattle.mt_agreement.specs.States.{Numbered}
-use Rattle.mt_evaluation.specs.Evaluation.{expr_kind_of}
-use Rattle.mt_evaluation.specs.Hoisting.{functions, kind_of, lexicals, named_function, services, services_of_kind}
-use Rattle.mt_evaluation.specs.Names.{Surroundings}
-use Rattle.mt_evaluation.specs.Runs.{gives}
+use Rattle.mt_eval_meaning.specs.Code.{AllStand, BodyStands, FileStands, ClientCodeStands, HoistedStands}
+use Rattle.mt_eval_meaning.specs.Scopes.{Scope, body_entry, with_lexicals}
+use Rattle.mt_eval_meaning.specs.States.{Numbered}
+use Rattle.mt_eval_meaning.specs.Evaluation.{expr_kind_of}
+use Rattle.mt_eval_meaning.specs.Hoisting.{functions, kind_of, lexicals, named_function, services, services_of_kind}
+use Rattle.mt_eval_meaning.specs.Names.{Surroundings}
+use Rattle.mt_eval_meaning.specs.Runs.{gives}
 use Rattle.mt_resolve.specs.Resolved.{AreNumbered, Extends, ServiceStands, ProgramStands, ClientStands, around_file, around_client}
-use Rattle.mt_bindings.specs.Bound.{captured}
-use Rattle.mt_resolver.specs.Resolving.{node, act, level, at}
+use Rattle.mt_resolve_names.specs.Bound.{captured}
+use Rattle.mt_resolve.specs.Resolving.{node, act, level, at}
 use Rattle.mt_resolve.specs.Tops.{service_named, service_one, services_from, all_services, file, client_code}
 use Rattle.mt_resolve.specs.Services.{Contents}
 use Rattle.mt_resolve.specs.declared.service.Service.{Service}
-use Rattle.mt_resolve.proofs.Bodies.{Makes, function_made, body_made, hoisted_made, deepest_made}
+use Rattle.mt_resolve.proofs.BodiesMade.{Makes, function_made, body_made, hoisted_made, deepest_made}
 use Rattle.mt_resolve.proofs.Growth.{body_kept, service_kept, hoisted_kept}
 use Rattle.mt_resolve.proofs.Nodes.{node_made}
-use Rattle.mt_resolve.proofs.Statements.{act_made}
+use Rattle.mt_resolve.proofs.StatementsMade.{act_made}
 use Rattle.mt_resolve.proofs.Triples.{Claim, Always, Stable, Post, Triple, triple_bind, triple_pure, triple_pre, triple_post, frame, stable_all, all_end}
-use Rattle.mt_slots.specs.declared.function.Body.{Body}
-use Rattle.mt_slots.specs.declared.function.Function.{Function}
-use Rattle.mt_slots.specs.declared.function.Hoisted.{Hoisted}
-use Rattle.mt_slots.specs.declared.function.Unit.{Unit as Unit'}
+use Rattle.mt_eval_meaning.specs.declared.function.Body.{Body}
+use Rattle.mt_eval_meaning.specs.declared.function.Function.{Function}
+use Rattle.mt_eval_meaning.specs.declared.function.Hoisted.{Hoisted}
+use Rattle.mt_eval_meaning.specs.declared.function.Unit.{Unit as Unit'}
 use Rattle.mt_syntax.specs.Fold.{Tree, StmtKindLayer}
 use Rattle.mt_syntax.specs.declared.program.Program.{Program}
 use Rattle.mt_syntax.specs.declared.tree.ExprKind.TheOpen.{StmtKind-F}

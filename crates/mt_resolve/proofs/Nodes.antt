@@ -1,23 +1,23 @@
 -- What expressions become stands for them.
 use Rattle.std.proofs.Common.{◌≡◌, ℕ, ◌≤◌, List, length, refl, sym, subst, arith}
 use Rattle.std.specs.Prelude.{slice_get}
-use Rattle.mt_agreement.specs.Code.{AllStand, ExprStandsTo, PieceStandsForValue, AttributeStands, PieceStandsForChild, EntryStands, ExprStands}
-use Rattle.mt_agreement.specs.Scopes.{Scope}
-use Rattle.mt_agreement.specs.States.{Numbered}
-use Rattle.mt_evaluation.specs.Evaluation.{dollars_of, own_name}
-use Rattle.mt_evaluation.specs.Names.{Surroundings}
-use Rattle.mt_evaluation.specs.Runs.{gives, and_then}
-use Rattle.mt_resolver.specs.Resolving.{Parts, exprs, entry, piece_of_value, attribute, piece_of_child, child, entries, attributes, children, node_at}
-use Rattle.mt_resolve.proofs.Bodies.{Makes, stable_expr, function_made}
+use Rattle.mt_eval_meaning.specs.Code.{AllStand, ExprStandsTo, PieceStandsForValue, AttributeStands, PieceStandsForChild, EntryStands, ExprStands}
+use Rattle.mt_eval_meaning.specs.Scopes.{Scope}
+use Rattle.mt_eval_meaning.specs.States.{Numbered}
+use Rattle.mt_eval_meaning.specs.Evaluation.{dollars_of, own_name}
+use Rattle.mt_eval_meaning.specs.Names.{Surroundings}
+use Rattle.mt_eval_meaning.specs.Runs.{gives, and_then}
+use Rattle.mt_resolve.specs.Resolving.{Parts, exprs, entry, piece_of_value, attribute, piece_of_child, child, entries, attributes, children, node_at}
+use Rattle.mt_resolve.proofs.BodiesMade.{Makes, stable_expr, function_made}
 use Rattle.mt_resolve.proofs.Growth.{attribute_kept, child_kept, entry_kept, expr_kept}
 use Rattle.mt_resolve.proofs.Triples.{Claim, Always, Stable, Triple, triple_bind, triple_pure, frame, stable_both, stable_all, all_made}
-use Rattle.mt_slots.specs.Slots.{ExprLayer, PieceLayer}
-use Rattle.mt_slots.specs.declared.expr.Attribute.{Attribute, roll-Attribute, out-roll-Attribute}
-use Rattle.mt_slots.specs.declared.expr.Entry.{Entry, roll-Entry, out-roll-Entry}
-use Rattle.mt_slots.specs.declared.expr.Expr.{Expr, out-Expr, roll-Expr, out-roll-Expr}
-use Rattle.mt_slots.specs.declared.expr.Expr.TheOpen.{Expr-F, Piece-F}
-use Rattle.mt_slots.specs.declared.expr.Piece.{Piece, out-Piece, roll-Piece, out-roll-Piece}
-use Rattle.mt_slots.specs.declared.function.Function.{Function}
+use Rattle.mt_eval_meaning.specs.Slots.{ExprLayer, PieceLayer}
+use Rattle.mt_eval_meaning.specs.declared.expr.Attribute.{Attribute, roll-Attribute, out-roll-Attribute}
+use Rattle.mt_eval_meaning.specs.declared.expr.Entry.{Entry, roll-Entry, out-roll-Entry}
+use Rattle.mt_eval_meaning.specs.declared.expr.Expr.{Expr, out-Expr, roll-Expr, out-roll-Expr}
+use Rattle.mt_eval_meaning.specs.declared.expr.Expr.TheOpen.{Expr-F, Piece-F}
+use Rattle.mt_eval_meaning.specs.declared.expr.Piece.{Piece, out-Piece, roll-Piece, out-roll-Piece}
+use Rattle.mt_eval_meaning.specs.declared.function.Function.{Function}
 use Rattle.mt_syntax.specs.Fold.{Tree, ExprKindLayer, MarkupChildLayer, MarkupValueLayer}
 use Rattle.mt_syntax.specs.declared.tree.Expr.{Expr as SyntaxExpr}
 use Rattle.mt_syntax.specs.declared.tree.ExprKind.TheOpen.{ExprKind-F, MarkupChild-F, MarkupValue-F}

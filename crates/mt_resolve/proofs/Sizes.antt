@@ -1,8 +1,8 @@
 -- How many slots the entry of client code has.
 use Rattle.std.proofs.Common.{◌≡◌, ℕ, List, [], length, ap, ◌∙◌, arith}
-use Rattle.mt_agreement.specs.Scopes.{Scope, with_lexicals}
-use Rattle.mt_agreement.proofs.Entries.{lexicals_length}
-use Rattle.mt_evaluation.specs.Hoisting.{Lexical, lexicals}
+use Rattle.mt_eval_meaning.specs.Scopes.{Scope, with_lexicals}
+use Rattle.mt_eval_agreement.proofs.Entries.{lexicals_length}
+use Rattle.mt_eval_meaning.specs.Hoisting.{Lexical, lexicals}
 use Rattle.mt_syntax.specs.declared.tree.Stmt.{Stmt}
 
 lexicals_count : (ls : List Lexical) → length (with_lexicals 0 ls []) ≡ length ls

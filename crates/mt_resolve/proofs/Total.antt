@@ -1,19 +1,19 @@
 -- What is within the depth is resolved.
 use Rattle.std.proofs.Common.{◌≡◌, ◌≢◌, ℕ, zero, suc, ◌++◌, List, [], ◌∷◌, map, Option, None, Some, refl, sym, subst}
 use Rattle.std.specs.Prelude.{slice_get}
-use Rattle.mt_agreement.specs.Scopes.{Scope}
-use Rattle.mt_evaluation.specs.Evaluation.{dollars_of, expr_kind_of, own_name}
-use Rattle.mt_evaluation.specs.Hoisting.{kind_of}
-use Rattle.mt_evaluation.specs.Names.{Surroundings}
-use Rattle.mt_evaluation.specs.Runs.{Ran, gives, leaves, and_then, all_behind, all}
-use Rattle.mt_evaluation.specs.declared.exit.Exit.{Exit}
-use Rattle.mt_evaluation.specs.declared.exit.Exit.TheVariants as exit
-use Rattle.mt_resolver.specs.Resolving.{M, Parts, add, optional, exprs, stmts, hoisted_named, hoisted_one, hoisted_from, all_hoisted, body, with_captured, function, entry, piece_of_value, attribute, piece_of_child, child, entries, attributes, children, node_at, node, value, declaration, declarations, start_at, begin, branch, block, handler, act_at, act, level, at}
+use Rattle.mt_eval_meaning.specs.Scopes.{Scope}
+use Rattle.mt_eval_meaning.specs.Evaluation.{dollars_of, expr_kind_of, own_name}
+use Rattle.mt_eval_meaning.specs.Hoisting.{kind_of}
+use Rattle.mt_eval_meaning.specs.Names.{Surroundings}
+use Rattle.mt_eval_meaning.specs.Runs.{Ran, gives, leaves, and_then, all_behind, all}
+use Rattle.mt_eval_meaning.specs.declared.exit.Exit.{Exit}
+use Rattle.mt_eval_meaning.specs.declared.exit.Exit.TheVariants as exit
+use Rattle.mt_resolve.specs.Resolving.{M, Parts, add, optional, exprs, stmts, hoisted_named, hoisted_one, hoisted_from, all_hoisted, body, with_captured, function, entry, piece_of_value, attribute, piece_of_child, child, entries, attributes, children, node_at, node, value, declaration, declarations, start_at, begin, branch, block, handler, act_at, act, level, at}
 use Rattle.mt_resolve.specs.Tops.{service_named, service_one, services_from, all_services, file, client_code}
 use Rattle.mt_resolve.specs.Within.{AllOf, IfThere, Limits, BodyIsWithin, ValueIsWithin, AttributeIsWithin, PieceIsWithin, ChildIsWithin, PropIsWithin, ExprIsWithin, DeclIsWithin, StartIsWithin, StmtIsWithin, within, AreWithin}
 use Rattle.mt_resolve.specs.declared.service.Service.{Service}
-use Rattle.mt_slots.specs.declared.function.Function.{Function}
-use Rattle.mt_slots.specs.declared.function.Hoisted.{Hoisted}
+use Rattle.mt_eval_meaning.specs.declared.function.Function.{Function}
+use Rattle.mt_eval_meaning.specs.declared.function.Hoisted.{Hoisted}
 use Rattle.mt_syntax.specs.Fold.{Tree, ExprKindLayer, ForStartLayer, MarkupChildLayer, MarkupValueLayer, StmtKindLayer}
 use Rattle.mt_syntax.specs.declared.program.Tilde.{Tilde}
 use Rattle.mt_syntax.specs.declared.tree.Decl.{Decl}

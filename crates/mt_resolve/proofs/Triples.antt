@@ -3,14 +3,14 @@
 use Rattle.std.proofs.Common.{◌≡◌, ℕ, zero, suc, ◌+◌, ◌++◌, ◌⊎◌, inl, inr, List, [], ◌∷◌, length, map, Option, Some, None, refl, sym, ap, ◌∙◌, subst, arith, append_assoc, length-append}
 use Rattle.std.proofs.lemmas.List.{append-nil}
 use Rattle.std.specs.Prelude.{slice_get}
-use Rattle.mt_agreement.specs.Code.{AllStand, OptionalStands, CodeStands}
-use Rattle.mt_agreement.specs.States.{Numbered}
-use Rattle.mt_evaluation.specs.Names.{Surroundings}
-use Rattle.mt_evaluation.specs.Runs.{Ran, gives, leaves, and_then, all_behind, all}
+use Rattle.mt_eval_meaning.specs.Code.{AllStand, OptionalStands, CodeStands}
+use Rattle.mt_eval_meaning.specs.States.{Numbered}
+use Rattle.mt_eval_meaning.specs.Names.{Surroundings}
+use Rattle.mt_eval_meaning.specs.Runs.{Ran, gives, leaves, and_then, all_behind, all}
 use Rattle.mt_resolve.specs.Resolved.{AreNumbered, Extends}
-use Rattle.mt_resolver.specs.Resolving.{M, add, optional}
+use Rattle.mt_resolve.specs.Resolving.{M, add, optional}
 use Rattle.mt_resolve.proofs.Growth.{all_kept, optional_kept, code_kept}
-use Rattle.mt_slots.specs.declared.function.Function.{Function}
+use Rattle.mt_eval_meaning.specs.declared.function.Function.{Function}
 
 abbrev pub Claim : Type 1
 Claim = List Function → List Numbered → Type 0

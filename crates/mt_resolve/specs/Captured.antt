@@ -1,7 +1,7 @@
 -- What services capture, in terms of the environment of the file's top.
 use Rattle.std.specs.Prelude.{◌≡◌, ℕ, List, map, None}
-use Rattle.mt_agreement.specs.States.{kept_free}
-use Rattle.mt_evaluation.specs.Names.{Environment}
+use Rattle.mt_eval_meaning.specs.States.{kept_free}
+use Rattle.mt_eval_meaning.specs.Names.{Environment}
 use Rattle.mt_resolve.specs.declared.service.Service.{Service}
 use Rattle.mt_syntax.specs.declared.program.Program.{Program}
 use Rattle.mt_syntax.specs.declared.tree.Function.{Function}

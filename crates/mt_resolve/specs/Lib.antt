@@ -3,3 +3,4 @@ pub mod Tops
 pub mod Within
 pub mod Resolved
 pub mod Captured
+pub mod Resolving

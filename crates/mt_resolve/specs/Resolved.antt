@@ -1,15 +1,15 @@
 -- Resolved code that stands for syntax, with a table of what the numbers of its functions stand for.
 use Rattle.std.specs.Prelude.{◌≡◌, ℕ, List, [], ◌∷◌, ◌++◌, length, map, None, Some, slice_get}
-use Rattle.mt_agreement.specs.Code.{AllStand, FunctionStands, captured_slots, TableStands, FileStands, ClientCodeStands}
-use Rattle.mt_agreement.specs.Scopes.{Scope, body_entry}
-use Rattle.mt_agreement.specs.States.{Numbered}
-use Rattle.mt_evaluation.specs.Evaluation.{server_surroundings, client_surroundings}
-use Rattle.mt_evaluation.specs.Hoisting.{services}
-use Rattle.mt_evaluation.specs.Names.{Surroundings}
+use Rattle.mt_eval_meaning.specs.Code.{AllStand, FunctionStands, captured_slots, TableStands, FileStands, ClientCodeStands}
+use Rattle.mt_eval_meaning.specs.Scopes.{Scope, body_entry}
+use Rattle.mt_eval_meaning.specs.States.{Numbered}
+use Rattle.mt_eval_meaning.specs.Evaluation.{server_surroundings, client_surroundings}
+use Rattle.mt_eval_meaning.specs.Hoisting.{services}
+use Rattle.mt_eval_meaning.specs.Names.{Surroundings}
 use Rattle.mt_resolve.specs.Services.{Contents}
 use Rattle.mt_resolve.specs.declared.service.Service.{Service}
-use Rattle.mt_slots.specs.declared.function.Function.{Function}
-use Rattle.mt_slots.specs.declared.function.Unit.{Unit as Unit'}
+use Rattle.mt_eval_meaning.specs.declared.function.Function.{Function}
+use Rattle.mt_eval_meaning.specs.declared.function.Unit.{Unit as Unit'}
 use Rattle.mt_syntax.specs.declared.program.Program.{Program}
 use Rattle.mt_syntax.specs.declared.tree.Function.{Function as SyntaxFunction}
 use Rattle.mt_syntax.specs.declared.tree.Stmt.{Stmt}

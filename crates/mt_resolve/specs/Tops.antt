@@ -1,13 +1,13 @@
 -- The code of a file's top with its services, and of client code.
 use Rattle.std.specs.Prelude.{ℕ, List, [], ◌∷◌, ◌++◌, length, map, Option, None, Some}
-use Rattle.mt_agreement.specs.Scopes.{Scope, with_lexicals, body_entry}
-use Rattle.mt_bindings.specs.Bound.{captured}
-use Rattle.mt_evaluation.specs.Hoisting.{kind_of, lexicals, variables}
-use Rattle.mt_evaluation.specs.Names.{Surroundings}
-use Rattle.mt_evaluation.specs.Runs.{◌>>=◌, pure}
+use Rattle.mt_eval_meaning.specs.Scopes.{Scope, with_lexicals, body_entry}
+use Rattle.mt_resolve_names.specs.Bound.{captured}
+use Rattle.mt_eval_meaning.specs.Hoisting.{kind_of, lexicals, variables}
+use Rattle.mt_eval_meaning.specs.Names.{Surroundings}
+use Rattle.mt_eval_meaning.specs.Runs.{◌>>=◌, pure}
 use Rattle.mt_resolve.specs.declared.service.Service.{Service}
-use Rattle.mt_resolver.specs.Resolving.{M, all_hoisted, at, body, stmts}
-use Rattle.mt_slots.specs.declared.function.Unit.{Unit as Unit'}
+use Rattle.mt_resolve.specs.Resolving.{M, all_hoisted, at, body, stmts}
+use Rattle.mt_eval_meaning.specs.declared.function.Unit.{Unit as Unit'}
 use Rattle.mt_syntax.specs.Fold.{Tree, StmtKindLayer}
 use Rattle.mt_syntax.specs.declared.tree.ExprKind.TheOpen.{StmtKind-F}
 use Rattle.mt_syntax.specs.declared.tree.Function.{Function as SyntaxFunction, out-Function}

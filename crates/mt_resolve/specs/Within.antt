@@ -1,7 +1,7 @@
 -- Syntax that is at most so deep, where the dollars of a tilde stand in its place.
 use Rattle.std.specs.Prelude.{ℕ, zero, suc, List, [], ◌∷◌, Option, None, Some, slice_get}
-use Rattle.mt_evaluation.specs.Evaluation.{dollars_of, expr_kind_of}
-use Rattle.mt_evaluation.specs.Hoisting.{kind_of}
+use Rattle.mt_eval_meaning.specs.Evaluation.{dollars_of, expr_kind_of}
+use Rattle.mt_eval_meaning.specs.Hoisting.{kind_of}
 use Rattle.mt_syntax.specs.Fold.{Tree, ExprKindLayer, ForStartLayer, MarkupChildLayer, MarkupValueLayer, StmtKindLayer}
 use Rattle.mt_syntax.specs.declared.program.Tilde.{Tilde}
 use Rattle.mt_syntax.specs.declared.tree.Decl.{Decl, out-Decl}

@@ -2,7 +2,7 @@ ghost use Rattle.std.specs.Prelude.{◌≡◌, ◌<◌, ◌++◌, ◌∷◌, [],
 ghost use Rattle.mt_resolve.specs.Services.{captured_by, function_of, nothing};
 
 use crate::service::Service;
-use mt_slots::{Body, Function, Unit};
+use mt_eval_meaning::{Body, Function, Unit};
 use mt_tree::{NoMemory, Row, Text, push};
 use std::alloc::Global;
 use std::marker::Model;
@@ -37,8 +37,8 @@ pub struct Units {
 impl Model for Units {
     ghost use Rattle.std.specs.Coded.{codes};
     ghost use Rattle.mt_resolve.specs.Services.{Contents};
-    ghost use Rattle.mt_slots.specs.contracts.expr.Expr as expr;
-    ghost use Rattle.mt_slots.specs.contracts.stmt.Stmt as stmt;
+    ghost use Rattle.mt_eval_meaning.specs.contracts.expr.Expr as expr;
+    ghost use Rattle.mt_eval_meaning.specs.contracts.stmt.Stmt as stmt;
     ghost use Rattle.mt_tree.specs.contracts.data.Data as datum;
 
     ghost Value = { Contents };

@@ -10,14 +10,14 @@ use Rattle.mt_syntax.specs.DataText.{arguments_text}
 use Rattle.mt_syntax.specs.Fold.{on_stmt}
 use Rattle.mt_syntax.specs.Numbering.{values_of}
 use Rattle.mt_syntax.specs.declared.tree.Stmt.{Stmt}
-use Rattle.mt_placement.specs.Placement.{misplaced_jumps}
-use Rattle.mt_declared.specs.Twice.{twice_in_client}
+use Rattle.mt_stage_placement.specs.Placement.{misplaced_jumps}
+use Rattle.mt_stage_declared.specs.Twice.{twice_in_client}
 use Rattle.mt_stage.specs.CodeLimits.{IsCodeWithinLimits}
 use Rattle.mt_json.proofs.Arguments.{one_list_text}
 use Rattle.mt_script_words.specs.Values.{is_within}
 use Rattle.mt_script_words.proofs.ValueTexts.{within}
 use Rattle.mt_script_tree.specs.Reading.{stmts_at}
-use Rattle.mt_script_laws.proofs.FoundStatements.{found_code_is_readable}
+use Rattle.mt_script_read.proofs.FoundStatements.{found_code_is_readable}
 use Rattle.mt_script_read.specs.Reads.{Reads}
 use Rattle.mt_script_read.specs.Walking.{all_walks, walking}
 use Rattle.mt_script_read.proofs.Exact.{none_found, only_found}

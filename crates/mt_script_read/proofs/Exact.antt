@@ -4,8 +4,8 @@ use Rattle.mt_syntax.specs.CodeText.{code_text}
 use Rattle.mt_syntax.specs.declared.tree.Stmt.{Stmt}
 use Rattle.mt_stage.specs.CodeLimits.{IsCodeWithinLimits}
 use Rattle.mt_script_tree.specs.Reading.{stmts_at}
-use Rattle.mt_script_laws.proofs.Limits.{limits_are_readable}
-use Rattle.mt_script_laws.proofs.Read.{readable_code_is_found}
+use Rattle.mt_script_read.proofs.Limits.{limits_are_readable}
+use Rattle.mt_script_read.proofs.Read.{readable_code_is_found}
 
 pub found_is : (bytes : List ℕ) (body : List Stmt) → IsCodeWithinLimits body → code_text body ≡ bytes → stmts_at 60 bytes ≡ Some body
 found_is bytes body w text = ap (stmts_at 60) (sym text) ∙ readable_code_is_found 60 body (limits_are_readable body w) w.depth

@@ -15,7 +15,7 @@ use Rattle.mt_syntax.specs.declared.tree.Stmt.{Stmt}
 use Rattle.mt_syntax_laws.specs.Blanked.{blanked}
 use Rattle.mt_syntax_laws.proofs.Injection.{only_values_differ, values_of_code}
 use Rattle.mt_stage.specs.Accepted.{IsAccepted}
-use Rattle.mt_stage_laws.proofs.Limits.{within_limits}
+use Rattle.mt_stage.proofs.Limits.{within_limits}
 use Rattle.mt_script_read.specs.Differing.{DifferAt}
 use Rattle.mt_script_read.specs.Reads.{Reads}
 use Rattle.mt_script_read.proofs.Exact.{one_text}

@@ -1,3 +1,4 @@
 pub mod Differing
 pub mod Reads
 pub mod Walking
+pub mod Readable

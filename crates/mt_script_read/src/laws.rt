@@ -1,17 +1,20 @@
-ghost use Rattle.std.specs.Prelude.{◌≡◌, ℕ, List, length, slice_get, Some};
-ghost use Rattle.mt_tree.specs.declared.data.Data.{Data};
+ghost use Rattle.mt_script_read.specs.Differing.{DifferAt};
+ghost use Rattle.mt_script_read.specs.Readable.{IsReadable};
+ghost use Rattle.mt_script_read.specs.Reads.{Reads};
+ghost use Rattle.mt_script_tree.specs.Reading.{stmts_at};
+ghost use Rattle.mt_stage.specs.Accepted.{IsAccepted};
+ghost use Rattle.mt_stage.specs.CodeLimits.{IsCodeWithinLimits};
 ghost use Rattle.mt_syntax.specs.CodeText.{code_text};
 ghost use Rattle.mt_syntax.specs.DataLimits.{AreWithinLimits};
+ghost use Rattle.mt_syntax.specs.Depth.{depth_of};
 ghost use Rattle.mt_syntax.specs.Numbering.{values_of};
 ghost use Rattle.mt_syntax.specs.Substitution.{subst};
 ghost use Rattle.mt_syntax.specs.declared.program.Program.{Program};
 ghost use Rattle.mt_syntax.specs.declared.program.Tilde.{Tilde};
 ghost use Rattle.mt_syntax.specs.declared.tree.Stmt.{Stmt};
 ghost use Rattle.mt_syntax_laws.specs.Blanked.{blanked};
-ghost use Rattle.mt_stage.specs.Accepted.{IsAccepted};
-ghost use Rattle.mt_stage.specs.CodeLimits.{IsCodeWithinLimits};
-ghost use Rattle.mt_script_read.specs.Differing.{DifferAt};
-ghost use Rattle.mt_script_read.specs.Reads.{Reads};
+ghost use Rattle.mt_tree.specs.declared.data.Data.{Data};
+ghost use Rattle.std.specs.Prelude.{◌≡◌, ℕ, List, length, slice_get, Some, ◌≤◌};
 
 /// No two codes within the limits have one text.
 pub fn one_text_for_each_code()
@@ -36,4 +39,14 @@ pub fn only_values_differ()
     ensures one_place { (i : ℕ) (p : Program) (number : ℕ) (t : Tilde) (ds es : List Data) (read other : List Stmt) → IsAccepted p → slice_get p.tildes number ≡ Some t → length ds ≡ length t.dollars → length es ≡ length t.dollars → AreWithinLimits ds → AreWithinLimits es
         → Reads (code_text (subst ds t.body)) read → Reads (code_text (subst es t.body)) other → DifferAt i ds es
         → (blanked read ≡ blanked other) × DifferAt i (values_of read) (values_of other) }
+{}
+
+/// In the text of code that is at most so deep this code is found.
+pub fn code_is_found_in_its_text()
+    ensures { (depth : ℕ) (body : List Stmt) → IsReadable body → depth_of body ≤ depth → stmts_at depth (code_text body) ≡ Some body }
+{}
+
+/// Whatever is found has the form of code, whichever bytes it is found in.
+pub fn what_is_found_is_code()
+    ensures { (depth : ℕ) (bytes : List ℕ) (body : List Stmt) → stmts_at depth bytes ≡ Some body → IsReadable body }
 {}

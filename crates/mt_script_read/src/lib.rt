@@ -5,10 +5,13 @@
 //!
 //! `mt_script_tree` finds the one code that the bytes can be the text of, without recursion deeper than the limit; what it
 //! finds is tested against the limits, written again by `mt_script_write`, and compared with the bytes. So all that is owed of what
-//! finds the code is that it finds the code of each text that was written, and nothing that has not the form of code.
+//! finds the code is that it finds the code of each text that was written, and nothing that has not the form of code. The laws
+//! [`code_is_found_in_its_text`] and [`what_is_found_is_code`] say so; `Readable` in `specs` says of which code, and their `proofs` go from
+//! the parts of a tree to the whole: `Goodness` is what is known of each node, `Read` that each is found in its text, and `Found` with the
+//! files beside it that what is found is good.
 //!
 //! `Reads` in `specs` says which code is read from bytes, `Walking` which values are met on a walk over a tree that is not too
-//! deep, and `Differing` which lists of data differ in one place alone. The laws say that no two codes have one text, and that the
+//! deep, and `Differing` which lists of data differ in one place alone. Further laws say that no two codes have one text, and that the
 //! code that is read from the text of a tilde of an accepted program has just the data that were put in, each in its dollar's
 //! place, whatever characters they hold. The reader of pages stands on this crate.
 #![tactic(auto)]
@@ -17,6 +20,9 @@ mod laws;
 mod reading;
 mod walk;
 
-pub use laws::{one_text_for_each_code, only_values_differ, values_are_read_as_values};
+pub use laws::{
+    code_is_found_in_its_text, one_text_for_each_code, only_values_differ,
+    values_are_read_as_values, what_is_found_is_code,
+};
 pub use mt_script_words::CodeRefusal;
 pub use reading::read_code;

@@ -1,1 +1,10 @@
 pub mod Sources
+pub mod Tokens
+pub mod Marks
+pub mod Derived
+pub mod Bounds
+pub mod Nodes
+pub mod Parts
+pub mod Kept
+pub mod Built
+pub mod Short

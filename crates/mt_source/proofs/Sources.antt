@@ -5,7 +5,7 @@ use Rattle.mt_lexer.specs.declared.refusal.LexRefusal.{LexRefusal}
 use Rattle.mt_lexer.specs.declared.refusal.LexRefusal.TheVariants as spelling
 use Rattle.mt_lexer.specs.Tokens.{Spelled}
 use Rattle.mt_lexer.specs.Verdict.{IsReading, Reads}
-use Rattle.mt_marks.specs.Tokens.{tokens_in}
+use Rattle.mt_parser_marks.specs.Tokens.{tokens_in}
 use Rattle.mt_parser.proofs.Answer.{one_answer}
 use Rattle.mt_parser.proofs.Few.{same_source}
 use Rattle.mt_parser.specs.declared.refusal.ParseRefusal.{ParseRefusal}

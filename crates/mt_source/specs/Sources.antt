@@ -3,7 +3,7 @@ use Rattle.std.specs.Prelude.{◌≡◌, ℕ, List, [], length, Some, Ok, Err, �
 use Rattle.mt_lexer.specs.declared.refusal.LexRefusal.TheVariants as spelling
 use Rattle.mt_lexer.specs.Tokens.{Spelled}
 use Rattle.mt_lexer.specs.Verdict.{Reads}
-use Rattle.mt_marks.specs.Tokens.{tokens_in}
+use Rattle.mt_parser_marks.specs.Tokens.{tokens_in}
 use Rattle.mt_parser.specs.declared.refusal.ParseRefusal.TheVariants as grammar
 use Rattle.mt_parser.specs.Parsing.{Answers}
 use Rattle.mt_syntax.specs.First.{first_of}

@@ -4,10 +4,10 @@ ghost use Rattle.mt_stage.specs.Accepted.{broken_places};
 ghost use Rattle.mt_source.specs.Sources.{IsAcceptedText, IsRefusedWith, IsSourceOf};
 ghost use Rattle.mt_tree.specs.Limits.{source_limit};
 
+use crate::parsed_is_within_limits;
 use crate::refusal::SourceRefusal;
 use mt_lexer::{Tokens, lex};
 use mt_parser::parse;
-use mt_source_laws::parsed_is_within_limits;
 use mt_stage::{Checked, check};
 use std::alloc::Global;
 

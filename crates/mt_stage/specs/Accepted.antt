@@ -6,9 +6,9 @@ use Rattle.mt_syntax.specs.declared.broken.Broken.{Broken}
 use Rattle.mt_syntax.specs.declared.rule.Rule.{Rule}
 use Rattle.mt_syntax.specs.ProgramLimits.{IsWithinLimits}
 use Rattle.mt_syntax.specs.declared.program.Program.{Program}
-use Rattle.mt_placement.specs.Placement.{misplaced}
-use Rattle.mt_declared.specs.Twice.{declared_twice}
-use Rattle.mt_scopes.specs.Misused.{misused_names}
+use Rattle.mt_stage_placement.specs.Placement.{misplaced}
+use Rattle.mt_stage_declared.specs.Twice.{declared_twice}
+use Rattle.mt_stage_scopes.specs.Misused.{misused_names}
 use Rattle.mt_stage.specs.declared.refusal.StageRefusal.{StageRefusal}
 use Rattle.mt_stage.specs.declared.refusal.StageRefusal.TheVariants as refusal
 

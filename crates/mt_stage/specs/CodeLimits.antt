@@ -5,8 +5,8 @@ use Rattle.mt_syntax.specs.DataLimits.{AreWithinLimits}
 use Rattle.mt_syntax.specs.Depth.{depth_of}
 use Rattle.mt_syntax.specs.Numbering.{values_of}
 use Rattle.mt_syntax.specs.declared.tree.Stmt.{Stmt}
-use Rattle.mt_placement.specs.Placement.{misplaced_jumps}
-use Rattle.mt_declared.specs.Twice.{twice_in_client}
+use Rattle.mt_stage_placement.specs.Placement.{misplaced_jumps}
+use Rattle.mt_stage_declared.specs.Twice.{twice_in_client}
 use Rattle.mt_syntax.specs.Texts.{longest_in}
 use Rattle.mt_tree.specs.Limits.{depth_limit, text_limit}
 

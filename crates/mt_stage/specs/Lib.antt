@@ -1,3 +1,4 @@
 pub mod Accepted
 pub mod CodeLimits
 pub mod Services
+pub mod Made

@@ -1,10 +1,10 @@
 -- The services of a file, by name.
 use Rattle.std.specs.Prelude.{ℕ, Bool, true, false, List, filter, map}
 use Rattle.mt_syntax.specs.declared.tree.Stmt.{Stmt}
-use Rattle.mt_declared.specs.Declarations.{declared_in_file}
-use Rattle.mt_declared.specs.declared.declaration.Declaration.{Declaration}
-use Rattle.mt_declared.specs.declared.declaration.DeclarationKind.{DeclarationKind}
-use Rattle.mt_declared.specs.declared.declaration.DeclarationKind.TheVariants as kind
+use Rattle.mt_stage_declared.specs.Declarations.{declared_in_file}
+use Rattle.mt_stage_declared.specs.declared.declaration.Declaration.{Declaration}
+use Rattle.mt_stage_declared.specs.declared.declaration.DeclarationKind.{DeclarationKind}
+use Rattle.mt_stage_declared.specs.declared.declaration.DeclarationKind.TheVariants as kind
 
 abbrev pub is_service : DeclarationKind → Bool
 is_service kind.Service = true

@@ -6,9 +6,9 @@ ghost use Rattle.mt_stage.specs.Services.{services_of};
 
 use crate::refusal::StageRefusal;
 use crate::services::services;
-use mt_declared::declared_twice;
-use mt_placement::first_misplaced;
-use mt_scopes::misused_name;
+use mt_stage_declared::declared_twice;
+use mt_stage_placement::first_misplaced;
+use mt_stage_scopes::misused_name;
 use mt_syntax::{Broken, Program, earlier};
 use mt_tree::{NoMemory, Row, Text};
 use std::alloc::Global;

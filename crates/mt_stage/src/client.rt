@@ -1,9 +1,9 @@
 ghost use Rattle.std.specs.Prelude.{◌≡◌, ◌↔◌, [], IsTrue};
-ghost use Rattle.mt_placement.specs.Placement.{misplaced_jumps};
-ghost use Rattle.mt_declared.specs.Twice.{twice_in_client};
+ghost use Rattle.mt_stage_placement.specs.Placement.{misplaced_jumps};
+ghost use Rattle.mt_stage_declared.specs.Twice.{twice_in_client};
 
-use mt_declared::declares_once;
-use mt_placement::jumps_fit;
+use mt_stage_declared::declares_once;
+use mt_stage_placement::jumps_fit;
 use mt_syntax::Code;
 
 /// Whether the code breaks neither the rule on names that are declared twice nor the rule on jumps. Takes no memory.

@@ -1,7 +1,7 @@
 ghost use Rattle.std.specs.Prelude.{◌≡◌, ◌++◌, ◌∷◌, [], IfOk, OnOk};
 ghost use Rattle.mt_stage.specs.Services.{is_service, names_of_services, services_of};
 
-use mt_declared::{Declaration, DeclarationKind, declared_in_file};
+use mt_stage_declared::{Declaration, DeclarationKind, declared_in_file};
 use mt_syntax::Stmt;
 use mt_tree::{NoMemory, Row, Text};
 use std::alloc::Global;

@@ -1,26 +1,26 @@
 -- The start of a program ends as its unit on slots does.
 use Rattle.std.proofs.Common.{◌≡◌, ℕ, List, Some, Result, refl, ap, ap₂, sym, subst, ◌∙◌, if◌then◌else◌, slice_get, IfOk}
-use Rattle.mt_agreement.proofs.Stores.{seen_at}
-use Rattle.mt_agreement.proofs.Whole.{start_law}
-use Rattle.mt_agreement.specs.Agreement.{StartsAs}
-use Rattle.mt_agreement.specs.Code.{FileStands}
-use Rattle.mt_agreement.specs.States.{Numbered}
-use Rattle.mt_evaluation.specs.Entering.{Named}
-use Rattle.mt_evaluation.specs.Host.{done_ran, seen, seen_cell}
-use Rattle.mt_evaluation.specs.Names.{Environment}
-use Rattle.mt_evaluation.specs.Runs.{Ran, gives, leaves}
-use Rattle.mt_evaluation.specs.declared.exit.Done.{Done}
-use Rattle.mt_evaluation.specs.declared.exit.Exit.{Exit}
-use Rattle.mt_evaluation.specs.declared.exit.Exit.TheVariants as exit
-use Rattle.mt_evaluation.specs.declared.state.State.{State}
-use Rattle.mt_plain_host.specs.Plain.{Plain, fresh, plain}
-use Rattle.mt_properties.specs.ErrorText.{error_text, error_of, thrown_text, within_bytes}
-use Rattle.mt_properties.specs.Keys.{key_text, text_or}
+use Rattle.mt_eval_agreement.proofs.Stores.{seen_at}
+use Rattle.mt_eval_agreement.proofs.Whole.{start_law}
+use Rattle.mt_eval_meaning.specs.Agreement.{StartsAs}
+use Rattle.mt_eval_meaning.specs.Code.{FileStands}
+use Rattle.mt_eval_meaning.specs.States.{Numbered}
+use Rattle.mt_eval_meaning.specs.Entering.{Named}
+use Rattle.mt_eval_meaning.specs.Host.{done_ran, seen, seen_cell}
+use Rattle.mt_eval_meaning.specs.Names.{Environment}
+use Rattle.mt_eval_meaning.specs.Runs.{Ran, gives, leaves}
+use Rattle.mt_eval_meaning.specs.declared.exit.Done.{Done}
+use Rattle.mt_eval_meaning.specs.declared.exit.Exit.{Exit}
+use Rattle.mt_eval_meaning.specs.declared.exit.Exit.TheVariants as exit
+use Rattle.mt_eval_meaning.specs.declared.state.State.{State}
+use Rattle.mt_builtins.specs.Plain.{Plain, fresh, plain}
+use Rattle.mt_ops_properties.specs.ErrorText.{error_text, error_of, thrown_text, within_bytes}
+use Rattle.mt_ops_properties.specs.Keys.{key_text, text_or}
 use Rattle.mt_resolve.specs.Resolved.{ProgramStands, around_file}
 use Rattle.mt_resolve.specs.Services.{Contents}
-use Rattle.mt_slots.specs.Slots as slots
-use Rattle.mt_slots.specs.declared.function.Function.{Function}
-use Rattle.mt_slots.specs.declared.function.Unit.{Unit as Unit'}
+use Rattle.mt_eval_meaning.specs.Slots as slots
+use Rattle.mt_eval_meaning.specs.declared.function.Function.{Function}
+use Rattle.mt_eval_meaning.specs.declared.function.Unit.{Unit as Unit'}
 use Rattle.mt_start.specs.Starts.{EndsLike, started, failed, unbuilt, empty_state, exit_text, ending_of, ending_on, start_of}
 use Rattle.mt_start.specs.declared.startup.Startup.{Startup}
 use Rattle.mt_syntax.specs.declared.program.Program.{Program}

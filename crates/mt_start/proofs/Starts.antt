@@ -2,7 +2,7 @@
 use Rattle.std.proofs.Common.{◌≡◌, List, [], ℕ, Result, Ok, Err, IfOk, length, sym, ap, subst, ◌∙◌}
 use Rattle.mt_lexer.proofs.Readings.{only}
 use Rattle.mt_lexer.specs.Tokens.{Spelled}
-use Rattle.mt_marks.specs.Tokens.{tokens_in}
+use Rattle.mt_parser_marks.specs.Tokens.{tokens_in}
 use Rattle.mt_parser.proofs.Answer.{one_answer}
 use Rattle.mt_parser.specs.Parsing.{Answers}
 use Rattle.mt_source.specs.Sources.{IsSourceOf, IsNotAcceptedText}

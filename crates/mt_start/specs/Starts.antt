@@ -1,18 +1,18 @@
 -- How the start of an application ends.
 use Rattle.std.specs.Prelude.{◌≡◌, ◌++◌, ℕ, List, [], codes, decimal, if◌then◌else◌}
-use Rattle.mt_evaluation.specs.Entering.{Named}
-use Rattle.mt_evaluation.specs.Evaluation.{file, server_surroundings}
-use Rattle.mt_evaluation.specs.Names.{Environment}
-use Rattle.mt_evaluation.specs.Runs.{Ran, gives, leaves}
-use Rattle.mt_evaluation.specs.declared.exit.Exit.{Exit}
-use Rattle.mt_evaluation.specs.declared.exit.Exit.TheVariants as exit
-use Rattle.mt_evaluation.specs.declared.exit.Stop.{Stop}
-use Rattle.mt_evaluation.specs.declared.exit.Stop.TheVariants as stop
-use Rattle.mt_evaluation.specs.declared.state.State.{State}
-use Rattle.mt_properties.specs.ErrorText.{error_text}
+use Rattle.mt_eval_meaning.specs.Entering.{Named}
+use Rattle.mt_eval_meaning.specs.Evaluation.{file, server_surroundings}
+use Rattle.mt_eval_meaning.specs.Names.{Environment}
+use Rattle.mt_eval_meaning.specs.Runs.{Ran, gives, leaves}
+use Rattle.mt_eval_meaning.specs.declared.exit.Exit.{Exit}
+use Rattle.mt_eval_meaning.specs.declared.exit.Exit.TheVariants as exit
+use Rattle.mt_eval_meaning.specs.declared.exit.Stop.{Stop}
+use Rattle.mt_eval_meaning.specs.declared.exit.Stop.TheVariants as stop
+use Rattle.mt_eval_meaning.specs.declared.state.State.{State}
+use Rattle.mt_ops_properties.specs.ErrorText.{error_text}
 use Rattle.mt_source.specs.Sources.{IsSourceOf, IsRefusedWith}
 use Rattle.mt_stage.specs.Accepted.{broken_places}
-use Rattle.mt_plain_host.specs.Plain.{Plain, fresh, plain}
+use Rattle.mt_builtins.specs.Plain.{Plain, fresh, plain}
 use Rattle.mt_start.specs.declared.startup.Startup.{Startup}
 use Rattle.mt_start.specs.declared.startup.Startup.TheVariants.{Started, Failed, NotBuilt, Refused}
 use Rattle.mt_syntax.specs.declared.program.Program.{Program}

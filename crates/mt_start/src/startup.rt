@@ -1,18 +1,17 @@
 ghost use Rattle.std.specs.Prelude.{◌≡◌, ◌≤◌, ◌++◌, IfOk, codes, decimal, length};
-ghost use Rattle.mt_evaluation.specs.declared.state.State.{State};
+ghost use Rattle.mt_eval_meaning.specs.declared.state.State.{State};
 ghost use Rattle.mt_stage.specs.Accepted.{IsAccepted};
-ghost use Rattle.mt_evaluation.specs.Host.{done_ran};
+ghost use Rattle.mt_eval_meaning.specs.Host.{done_ran};
 ghost use Rattle.mt_start.specs.Starts as spec;
 ghost use Rattle.mt_start.specs.Starts.{EndsLike, StartMeans, ending_of, ending_on, start_of};
 ghost use Rattle.mt_tree.specs.Limits.{source_limit};
 
+use mt_builtins::PlainHost;
 use mt_eval::evaluate;
-use mt_evaluation::{Budget, Done, Stop};
+use mt_eval_meaning::{Budget, Done, Stop};
 use mt_ops::plain;
-use mt_plain_host::PlainHost;
-use mt_properties::error_text;
-use mt_resolve::resolve;
-use mt_resolve_laws::shallow_programs_are_within;
+use mt_ops_properties::error_text;
+use mt_resolve::{resolve, shallow_programs_are_within};
 use mt_source::{SourceRefusal, read_source};
 use mt_syntax::Program;
 use mt_tree::{NoMemory, STEP_LIMIT, Text};

@@ -1,15 +1,15 @@
 -- What the evaluation of a statement with a list or with an optional part is.
 use Rattle.std.proofs.Common.{◌≡◌, ℕ, List, Option, rules, sym, ap, ◌∙◌}
-use Rattle.mt_evaluation.specs.Statements as statements
-use Rattle.mt_evaluation.specs.declared.state.State.{State}
-use Rattle.mt_slots.specs.Slots.{Parts, stmt_at, block, declarations, or_else, returned_by, started_by, stepped_by, tested_by}
-use Rattle.mt_slots.specs.declared.expr.Expr.{Expr}
-use Rattle.mt_slots.specs.declared.function.Function.{Function}
-use Rattle.mt_slots.specs.declared.stmt.Decl.{Decl}
-use Rattle.mt_slots.specs.declared.stmt.ForStart.{ForStart}
-use Rattle.mt_slots.specs.declared.stmt.Stmt as code
-use Rattle.mt_slots.specs.declared.stmt.Stmt.{Stmt, out-Stmt, the_lemmas}
-use Rattle.mt_slots.specs.declared.stmt.Stmt.TheOpen.{Stmt-F}
+use Rattle.mt_eval_meaning.specs.Statements as statements
+use Rattle.mt_eval_meaning.specs.declared.state.State.{State}
+use Rattle.mt_eval_meaning.specs.Slots.{Parts, stmt_at, block, declarations, or_else, returned_by, started_by, stepped_by, tested_by}
+use Rattle.mt_eval_meaning.specs.declared.expr.Expr.{Expr}
+use Rattle.mt_eval_meaning.specs.declared.function.Function.{Function}
+use Rattle.mt_eval_meaning.specs.declared.stmt.Decl.{Decl}
+use Rattle.mt_eval_meaning.specs.declared.stmt.ForStart.{ForStart}
+use Rattle.mt_eval_meaning.specs.declared.stmt.Stmt as code
+use Rattle.mt_eval_meaning.specs.declared.stmt.Stmt.{Stmt, out-Stmt, the_lemmas}
+use Rattle.mt_eval_meaning.specs.declared.stmt.Stmt.TheOpen.{Stmt-F}
 use Rattle.mt_tree.specs.declared.operators.VarKind.{VarKind}
 
 var_layer : (kind : VarKind) (decls : List Decl) → out-Stmt (code.Var kind decls) ≡ Stmt-F.Var kind decls

@@ -1,14 +1,14 @@
 -- A loop does a turn and then the rest.
 use Rattle.std.proofs.Common.{◌≡◌, ℕ, zero, suc, ◌-◌, ◌<◌, ◌≤◌, Option, Some, None, Bool, true, false, refl, ap, ◌∙◌, arith, ltb-true, ltb-false, nat_lt}
 use Rattle.std.specs.Prelude.{if◌then◌else◌}
-use Rattle.mt_evaluation.specs.Runs.{Ran, gives, leaves, and_then}
-use Rattle.mt_evaluation.specs.State.{Eval}
-use Rattle.mt_evaluation.specs.Statements.{followed, turns, turning}
-use Rattle.mt_evaluation.specs.declared.completion.Completion.{Completion}
-use Rattle.mt_evaluation.specs.declared.exit.Exit.{Exit}
-use Rattle.mt_evaluation.specs.declared.exit.Exit.TheVariants as exit
-use Rattle.mt_evaluation.specs.declared.exit.Stop.TheVariants as stop
-use Rattle.mt_evaluation.specs.declared.state.State.{State}
+use Rattle.mt_eval_meaning.specs.Runs.{Ran, gives, leaves, and_then}
+use Rattle.mt_eval_meaning.specs.State.{Eval}
+use Rattle.mt_eval_meaning.specs.Statements.{followed, turns, turning}
+use Rattle.mt_eval_meaning.specs.declared.completion.Completion.{Completion}
+use Rattle.mt_eval_meaning.specs.declared.exit.Exit.{Exit}
+use Rattle.mt_eval_meaning.specs.declared.exit.Exit.TheVariants as exit
+use Rattle.mt_eval_meaning.specs.declared.exit.Stop.TheVariants as stop
+use Rattle.mt_eval_meaning.specs.declared.state.State.{State}
 
 module _ {K : Type 0} (one : Eval K (Option Completion)) where
   -- what follows a turn

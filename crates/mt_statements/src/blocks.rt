@@ -1,15 +1,14 @@
 ghost use Rattle.std.specs.Option.{option_copied};
-ghost use Rattle.mt_evaluation.specs.Runs.{Evals};
-ghost use Rattle.mt_evaluation.specs.Statements as statements;
+ghost use Rattle.mt_eval_meaning.specs.Runs.{Evals};
+ghost use Rattle.mt_eval_meaning.specs.Statements as statements;
 ghost use Rattle.mt_evaluator.specs.Nests.{Nests, rank};
-ghost use Rattle.mt_slots.specs.Slots as spec;
-ghost use Rattle.mt_slots.specs.Slots.{parts};
+ghost use Rattle.mt_eval_meaning.specs.Slots as spec;
+ghost use Rattle.mt_eval_meaning.specs.Slots.{parts};
 
 use crate::statements::Statements;
-use mt_evaluation::{Completion, Exit, Host, State};
-use mt_frames::{copied, grown, pushed};
+use mt_eval_meaning::{Completion, Exit, Expr, Function, Host, State, Stmt};
+use mt_eval_steps::{copied, grown, pushed};
 use mt_ops::is_truthy;
-use mt_slots::{Expr, Function, Stmt};
 use mt_tree::Boxed;
 use mt_value::{Address, Value};
 use std::alloc::Global;
@@ -52,7 +51,7 @@ impl<
             .stmt(self.level.calls, self.level.depth, frame, state, host, t)
     }
 
-    #[tactic(auto, unfolding(mt_evaluation::specs::Statements::expression))]
+    #[tactic(auto, unfolding(mt_eval_meaning::specs::Statements::expression))]
     pub(crate) fn expression(
         &self,
         frame: &[Address],
@@ -83,7 +82,7 @@ impl<
         }
     }
 
-    #[tactic(auto, unfolding(mt_evaluation::specs::Statements::choice))]
+    #[tactic(auto, unfolding(mt_eval_meaning::specs::Statements::choice))]
     pub(crate) fn choice(
         &self,
         frame: &[Address],
@@ -103,7 +102,7 @@ impl<
         self.or_else(frame, state, host, b)
     }
 
-    #[tactic(auto, unfolding(mt_evaluation::specs::Statements::given_back))]
+    #[tactic(auto, unfolding(mt_eval_meaning::specs::Statements::given_back))]
     fn given_back(
         &self,
         frame: &[Address],
@@ -134,7 +133,7 @@ impl<
         }
     }
 
-    #[tactic(auto, unfolding(mt_evaluation::specs::Statements::thrown))]
+    #[tactic(auto, unfolding(mt_eval_meaning::specs::Statements::thrown))]
     pub(crate) fn thrown(
         &self,
         frame: &[Address],
@@ -149,7 +148,7 @@ impl<
         Err(Exit::Throw(v))
     }
 
-    #[tactic(auto, unfolding(mt_slots::specs::Slots::handler))]
+    #[tactic(auto, unfolding(mt_eval_meaning::specs::Slots::handler))]
     fn handler(
         &self,
         frame: &[Address],
@@ -165,7 +164,7 @@ impl<
         self.stmt(inner.items(), state, host, t)
     }
 
-    #[tactic(auto, unfolding(mt_evaluation::specs::Statements::attempt))]
+    #[tactic(auto, unfolding(mt_eval_meaning::specs::Statements::attempt))]
     pub(crate) fn attempt(
         &self,
         frame: &[Address],
@@ -185,7 +184,7 @@ impl<
         }
     }
 
-    #[tactic(auto, unfolding(mt_slots::specs::Slots::block))]
+    #[tactic(auto, unfolding(mt_eval_meaning::specs::Slots::block))]
     pub(crate) fn block(
         &self,
         frame: &[Address],

@@ -1,16 +1,14 @@
 ghost use Rattle.std.specs.Prelude.{Some, None};
-ghost use Rattle.mt_evaluation.specs.Runs.{Evals};
-ghost use Rattle.mt_evaluation.specs.Statements as statements;
+ghost use Rattle.mt_eval_meaning.specs.Runs.{Evals};
+ghost use Rattle.mt_eval_meaning.specs.Statements as statements;
 ghost use Rattle.mt_evaluator.specs.Nests.{Nests, rank};
-ghost use Rattle.mt_slots.specs.Slots as spec;
-ghost use Rattle.mt_slots.specs.Slots.{parts};
+ghost use Rattle.mt_eval_meaning.specs.Slots as spec;
+ghost use Rattle.mt_eval_meaning.specs.Slots.{parts};
 ghost use Rattle.mt_tree.specs.declared.operators.VarKind.TheVariants as word;
 
 use crate::statements::Statements;
-use mt_evaluation::{Completion, Exit, Host, State};
-use mt_frames::referent;
-use mt_slots::{Decl, Expr, ForStart, Function, Name, Stmt};
-use mt_steps::{declare, write_name};
+use mt_eval_meaning::{Completion, Decl, Exit, Expr, ForStart, Function, Host, Name, State, Stmt};
+use mt_eval_steps::{declare, referent, write_name};
 use mt_tree::VarKind;
 use mt_value::{Address, Value};
 use std::alloc::Global;
@@ -109,7 +107,7 @@ impl<
         }
     }
 
-    #[tactic(auto, unfolding(mt_slots::specs::Slots::declaration))]
+    #[tactic(auto, unfolding(mt_eval_meaning::specs::Slots::declaration))]
     fn declaration(
         &self,
         frame: &[Address],
@@ -167,7 +165,7 @@ impl<
         }
     }
 
-    #[tactic(auto, unfolding(mt_evaluation::specs::Statements::finished))]
+    #[tactic(auto, unfolding(mt_eval_meaning::specs::Statements::finished))]
     pub(crate) fn var(
         &self,
         frame: &[Address],

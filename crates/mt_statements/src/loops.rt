@@ -1,14 +1,13 @@
 ghost use Rattle.std.specs.Option.{option_copied};
-ghost use Rattle.mt_evaluation.specs.Runs.{Evals};
-ghost use Rattle.mt_evaluation.specs.Statements as statements;
+ghost use Rattle.mt_eval_meaning.specs.Runs.{Evals};
+ghost use Rattle.mt_eval_meaning.specs.Statements as statements;
 ghost use Rattle.mt_evaluator.specs.Nests.{Nests, rank};
-ghost use Rattle.mt_slots.specs.Slots as spec;
-ghost use Rattle.mt_slots.specs.Slots.{parts};
+ghost use Rattle.mt_eval_meaning.specs.Slots as spec;
+ghost use Rattle.mt_eval_meaning.specs.Slots.{parts};
 
 use crate::statements::Statements;
-use mt_evaluation::{Completion, Exit, Host, State, Stop};
+use mt_eval_meaning::{Completion, Exit, Expr, ForStart, Function, Host, State, Stmt, Stop};
 use mt_ops::is_truthy;
-use mt_slots::{Expr, ForStart, Function, Stmt};
 use mt_value::{Address, Value};
 use std::alloc::Global;
 
@@ -92,7 +91,7 @@ impl<
         }
     }
 
-    #[tactic(auto, unfolding(mt_evaluation::specs::Statements::turn_body))]
+    #[tactic(auto, unfolding(mt_eval_meaning::specs::Statements::turn_body))]
     fn turn_body(
         &self,
         frame: &[Address],
@@ -109,7 +108,7 @@ impl<
     }
 
     /// One turn of a loop; `None` where another one follows.
-    #[tactic(auto, unfolding(mt_evaluation::specs::Statements::turn))]
+    #[tactic(auto, unfolding(mt_eval_meaning::specs::Statements::turn))]
     fn turn(
         &self,
         frame: &[Address],
@@ -153,7 +152,7 @@ impl<
         }
     }
 
-    #[tactic(auto, unfolding(mt_evaluation::specs::Statements::starting))]
+    #[tactic(auto, unfolding(mt_eval_meaning::specs::Statements::starting))]
     pub(crate) fn for_loop(
         &self,
         frame: &[Address],

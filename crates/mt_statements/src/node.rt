@@ -1,13 +1,12 @@
-ghost use Rattle.mt_evaluation.specs.Runs.{Evals};
+ghost use Rattle.mt_eval_meaning.specs.Runs.{Evals};
 ghost use Rattle.mt_evaluator.specs.Nests.{Nests, rank};
-ghost use Rattle.mt_slots.specs.Slots as spec;
-ghost use Rattle.mt_slots.specs.Slots.{parts};
-ghost use Rattle.mt_slots.specs.declared.stmt.Stmt.{out-Stmt};
+ghost use Rattle.mt_eval_meaning.specs.Slots as spec;
+ghost use Rattle.mt_eval_meaning.specs.Slots.{parts};
+ghost use Rattle.mt_eval_meaning.specs.declared.stmt.Stmt.{out-Stmt};
 
 use crate::statements::Statements;
-use mt_evaluation::{Completion, Exit, Host, State};
-use mt_slots::{Expr, Function, Stmt};
-use mt_steps::spend;
+use mt_eval_meaning::{Completion, Exit, Expr, Function, Host, State, Stmt};
+use mt_eval_steps::spend;
 use mt_value::{Address, Value};
 use std::alloc::Global;
 
@@ -75,7 +74,7 @@ impl<
     ///
     /// # Errors
     /// As the code says, and `NoMemory`.
-    #[tactic(auto, unfolding(mt_slots::specs::Slots::stmt))]
+    #[tactic(auto, unfolding(mt_eval_meaning::specs::Slots::stmt))]
     pub fn node(
         &self,
         frame: &[Address],

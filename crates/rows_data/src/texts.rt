@@ -1,7 +1,7 @@
 //! Texts of data.
 
 use anyhow::Result;
-use mt_data_cells::nodes;
+use mt_eval_steps::nodes;
 use mt_json::{arguments_text, data_text, json_text, read_arguments, read_data};
 use mt_tree::{Data, Text};
 use rows::{Line, made};

@@ -3,10 +3,10 @@
 use crate::operands::operands;
 use crate::{shown, sources};
 use anyhow::{Result, bail};
+use mt_builtins::PlainHost;
 use mt_eval::call;
-use mt_evaluation::{Budget, State};
-use mt_plain_host::PlainHost;
-use mt_steps::spend;
+use mt_eval_meaning::{Budget, State};
+use mt_eval_steps::spend;
 use mt_value::{Globals, Store};
 use rows::{Line, made};
 use std::alloc::Global;

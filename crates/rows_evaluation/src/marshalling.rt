@@ -3,8 +3,8 @@
 use crate::operands::operands;
 use crate::shown;
 use anyhow::{Result, bail};
-use mt_data_cells::nodes;
-use mt_evaluation::{Budget, Done};
+use mt_eval_meaning::{Budget, Done};
+use mt_eval_steps::nodes;
 use mt_json::arguments_text;
 use mt_marshal::elaborate;
 use mt_tree::{Data, Row};

@@ -2,7 +2,7 @@
 
 use crate::sources::{Ended, evaluated};
 use anyhow::{Context, Result, bail};
-use mt_evaluation::Done;
+use mt_eval_meaning::Done;
 use mt_tree::{STEP_LIMIT, push};
 use mt_value::{Address, Cell, Native, Store, Value};
 use rows::{Line, made};

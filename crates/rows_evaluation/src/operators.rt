@@ -3,8 +3,8 @@
 use crate::operands::operands;
 use crate::shown;
 use anyhow::{Result, bail};
-use mt_methods::method_cost;
-use mt_properties::{binary_cost, get_property, property_cost, set_property, unary_cost};
+use mt_ops_methods::method_cost;
+use mt_ops_properties::{binary_cost, get_property, property_cost, set_property, unary_cost};
 use mt_tree::{Binary, Text, Unary};
 use rows::{Line, made};
 use std::alloc::Global;

@@ -1,11 +1,11 @@
 //! How answers are written.
 
 use anyhow::{Context, Result};
-use mt_evaluation::Done;
+use mt_eval_meaning::Done;
 use mt_json::data_text;
 use mt_marshal::snapshot;
 use mt_ops::Outcome;
-use mt_properties::error_text;
+use mt_ops_properties::error_text;
 use mt_tree::Data;
 use mt_value::{Store, Value};
 use rows::made;

@@ -4,11 +4,10 @@ ghost use Rattle.std.specs.Prelude.{◌<◌, length};
 ghost use Rattle.mt_stage.specs.Accepted.{IsAccepted};
 
 use anyhow::{Result, bail, ensure};
+use mt_builtins::PlainHost;
 use mt_eval::evaluate;
-use mt_evaluation::{Budget, Done};
-use mt_plain_host::PlainHost;
-use mt_resolve::{Units, resolve};
-use mt_resolve_laws::shallow_programs_are_within;
+use mt_eval_meaning::{Budget, Done};
+use mt_resolve::{Units, resolve, shallow_programs_are_within};
 use mt_source::read_source;
 use mt_syntax::Program;
 use mt_tree::SOURCE_LIMIT;

@@ -1,7 +1,7 @@
 -- The unit of a code that was added is there.
 use Rattle.std.proofs.Common.{ℕ, ◌<◌, [], ◌∷◌, length, List, ap, arith}
 use Rattle.std.proofs.lemmas.List.{length-append}
-use Rattle.mt_agreement.specs.States.{Numbered}
+use Rattle.mt_eval_meaning.specs.States.{Numbered}
 use Rattle.mt_resolve.specs.Resolved.{ClientStands}
 use Rattle.mt_resolve.specs.Services.{Contents}
 use Rattle.mt_syntax.specs.declared.tree.Stmt.{Stmt}

@@ -6,12 +6,12 @@ ghost use Rattle.mt_tree.specs.Limits.{depth_limit};
 ghost use Rattle.rows_resolve.specs.Pages.{IsPage};
 
 use anyhow::{Context, Result, bail};
+use mt_builtins::PlainHost;
 use mt_eval::{call, evaluate};
-use mt_evaluation::{Budget, Done, Stop};
+use mt_eval_meaning::{Budget, Done, Stop};
 use mt_json::data_text;
 use mt_marshal::{Refused, snapshot};
-use mt_plain_host::PlainHost;
-use mt_properties::error_text;
+use mt_ops_properties::error_text;
 use mt_resolve::{UnitId, Units, resolve_client};
 use mt_script_read::read_code;
 use mt_syntax::Stmt;

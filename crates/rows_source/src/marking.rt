@@ -2,7 +2,7 @@
 
 use crate::placing::spelled;
 use anyhow::{Result, bail, ensure};
-use mt_marks::{child_text, end_place, name, number, text, tokens_of};
+use mt_parser_marks::{child_text, end_place, name, number, text, tokens_of};
 use mt_tree::SOURCE_LIMIT;
 use rows::{Line, add, made, quoted};
 use std::alloc::Global;
@@ -32,7 +32,7 @@ pub fn value(alloc: Global, line: &Line) -> Result<String> {
     let value = match line.call() {
         "name" => made(name(alloc, &spelling))?,
         "text" => made(text(alloc, &spelling))?,
-        "quoted" => made(mt_marks::quoted(alloc, &spelling))?,
+        "quoted" => made(mt_parser_marks::quoted(alloc, &spelling))?,
         "child_text" => made(child_text(alloc, &spelling))?,
         _ => {
             let value = number(&spelling);

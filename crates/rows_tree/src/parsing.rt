@@ -3,9 +3,9 @@
 ghost use Rattle.std.specs.Prelude.{◌≤◌, length};
 
 use anyhow::{Context, Result, bail, ensure};
-use mt_depth::first_too_deep;
-use mt_machine::read;
-use mt_marks::tokens_of;
+use mt_parser::first_too_deep;
+use mt_parser_machine::read;
+use mt_parser_marks::tokens_of;
 use mt_syntax::{Expr, ExprKind, Program, Stmt, StmtKind};
 use mt_tree::{Data, Place, Row, SOURCE_LIMIT, TOKEN_LIMIT, Text, push};
 use rows::{Line, add, made, quoted};

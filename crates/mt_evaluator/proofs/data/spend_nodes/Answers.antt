@@ -1,5 +1,5 @@
 use Rattle.std.proofs.Common.{arith, subst}
-use Rattle.mt_evaluation.specs.Runs.{Evals}
+use Rattle.mt_eval_meaning.specs.Runs.{Evals}
 use Rattle.mt_evaluator.proofs.Counting.{spent}
 use Rattle.mt_evaluator.proofs.data.spend_nodes.Goals as goal
 use Rattle.mt_syntax.specs.DataLimits.{nodes_of_data}

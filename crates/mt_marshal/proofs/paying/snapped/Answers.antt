@@ -1,6 +1,6 @@
 use Rattle.std.proofs.Common.{◌≡◌, ◌-◌, nat_le, true, false, Ok, Err, ap, ◌∙◌}
 use Rattle.std.specs.Prelude.{if◌then◌else◌}
-use Rattle.mt_evaluation.specs.declared.exit.Stop.TheVariants as stop
+use Rattle.mt_eval_meaning.specs.declared.exit.Stop.TheVariants as stop
 use Rattle.mt_marshal.proofs.Elaborating.{from_start, paid_is, unpaid}
 use Rattle.mt_marshal.specs.Elaboration.{Walked, cost}
 use Rattle.mt_marshal.specs.Rules.{number_of}

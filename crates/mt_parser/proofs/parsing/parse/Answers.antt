@@ -1,11 +1,11 @@
 use Rattle.std.proofs.Common.{◌≡◌, sym, ap, subst, ◌∙◌}
 use Rattle.mt_grammar.specs.Token.{Tokens}
-use Rattle.mt_machine.specs.Refused.{IsOffending}
-use Rattle.mt_marks.specs.Tokens.{tokens_in}
-use Rattle.mt_marks.specs.Views.{tokens_of}
-use Rattle.mt_nodes.specs.Views.{nodes_of}
+use Rattle.mt_parser_machine.specs.Refused.{IsOffending}
+use Rattle.mt_parser_marks.specs.Tokens.{tokens_in}
+use Rattle.mt_parser_marks.specs.Views.{tokens_of}
+use Rattle.mt_parser_marks.specs.NodeViews.{nodes_of}
 use Rattle.mt_parser.proofs.Few.{few_list}
-use Rattle.mt_parser.proofs.Places.{same_place}
+use Rattle.mt_parser.proofs.AnswerPlaces.{same_place}
 use Rattle.mt_parser.proofs.Small.{few_nodes}
 use Rattle.mt_parser.proofs.parsing.parse.Goals as goal
 

@@ -1,5 +1,5 @@
 use Rattle.std.proofs.Common.{◌∙◌}
-use Rattle.mt_parser.proofs.Places.{placed, past}
+use Rattle.mt_parser.proofs.AnswerPlaces.{placed, past}
 use Rattle.mt_parser.proofs.parsing.place_at.Goals as goal
 
 pub returns-then-number-tokens : goal.returns-then-number-tokens

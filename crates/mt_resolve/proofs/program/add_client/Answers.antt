@@ -1,6 +1,6 @@
 use Rattle.std.proofs.Common.{ap, length}
 use Rattle.std.proofs.lemmas.Result.{err_from_is_err_and}
-use Rattle.mt_bindings.specs.Around.{surroundings_of}
+use Rattle.mt_resolve_names.specs.Around.{surroundings_of}
 use Rattle.mt_resolve.proofs.Makes.{client_stands}
 use Rattle.mt_resolve.proofs.Total.{client_refuses}
 use Rattle.mt_resolve.proofs.program.add_client.Goals as goal

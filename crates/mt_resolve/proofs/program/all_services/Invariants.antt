@@ -1,6 +1,6 @@
 use Rattle.std.proofs.Common.{◌≡◌, length}
 use Rattle.mt_resolve.specs.Tops as spec
-use Rattle.mt_bindings.specs.Around.{surroundings_of}
+use Rattle.mt_resolve_names.specs.Around.{surroundings_of}
 use Rattle.mt_resolve.proofs.program.all_services.Given as goal
 
 abbrev pub invariant-loop-left : goal.invariant-loop-left

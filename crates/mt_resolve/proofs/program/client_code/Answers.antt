@@ -1,5 +1,5 @@
 use Rattle.std.proofs.Common.{◌≡◌, length, ◌∙◌, rules}
-use Rattle.mt_evaluation.specs.Hoisting.{lexicals}
+use Rattle.mt_eval_meaning.specs.Hoisting.{lexicals}
 use Rattle.mt_resolve.specs.Tops.{client_code}
 use Rattle.mt_resolve.proofs.Sizes.{entry_size}
 use Rattle.mt_resolve.proofs.program.client_code.Goals as goal

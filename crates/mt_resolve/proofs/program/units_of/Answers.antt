@@ -1,6 +1,6 @@
 use Rattle.std.proofs.Common.{ap}
 use Rattle.std.proofs.lemmas.Result.{err_from_is_err_and}
-use Rattle.mt_bindings.specs.Around.{surroundings_of}
+use Rattle.mt_resolve_names.specs.Around.{surroundings_of}
 use Rattle.mt_resolve.proofs.Makes.{program_stands}
 use Rattle.mt_resolve.proofs.Total.{file_refuses}
 use Rattle.mt_resolve.proofs.program.units_of.Goals as goal

@@ -1,4 +1,4 @@
-use Rattle.mt_stage.proofs.Places.{accepted}
+use Rattle.mt_stage.proofs.BrokenPlaces.{accepted}
 use Rattle.mt_stage.proofs.checked.check.Goals as goal
 
 pub invariant_of-result : goal.invariant_of-result

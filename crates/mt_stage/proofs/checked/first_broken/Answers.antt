@@ -1,9 +1,9 @@
 use Rattle.std.proofs.Common.{sym, ◌∙◌}
 use Rattle.mt_syntax.specs.First.{earlier_of}
-use Rattle.mt_placement.specs.Placement.{misplaced}
-use Rattle.mt_declared.specs.Twice.{declared_twice}
-use Rattle.mt_scopes.specs.Misused.{misused_names}
-use Rattle.mt_stage.proofs.Places.{first_of_three}
+use Rattle.mt_stage_placement.specs.Placement.{misplaced}
+use Rattle.mt_stage_declared.specs.Twice.{declared_twice}
+use Rattle.mt_stage_scopes.specs.Misused.{misused_names}
+use Rattle.mt_stage.proofs.BrokenPlaces.{first_of_three}
 use Rattle.mt_stage.proofs.checked.first_broken.Goals as goal
 
 pub returns : goal.returns

@@ -1,5 +1,5 @@
 use Rattle.std.proofs.Common.{◌≡◌, refl, ap₂}
-use Rattle.mt_evaluation.specs.declared.state.State.{State}
+use Rattle.mt_eval_meaning.specs.declared.state.State.{State}
 use Rattle.mt_start.proofs.Endings.{told_of_start}
 use Rattle.mt_start.specs.Starts.{empty_state}
 use Rattle.mt_start.proofs.startup.start_program.Goals as goal

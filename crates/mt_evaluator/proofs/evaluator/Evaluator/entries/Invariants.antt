@@ -1,7 +1,7 @@
 use Rattle.std.proofs.Common.{◌≡◌, length, map}
-use Rattle.mt_evaluation.specs.Runs.{all, all_behind}
-use Rattle.mt_slots.specs.Slots as spec
-use Rattle.mt_slots.specs.Slots.{parts}
+use Rattle.mt_eval_meaning.specs.Runs.{all, all_behind}
+use Rattle.mt_eval_meaning.specs.Slots as spec
+use Rattle.mt_eval_meaning.specs.Slots.{parts}
 use Rattle.mt_evaluator.proofs.evaluator.Evaluator.entries.Given as goal
 
 abbrev pub invariant-loop-items : goal.invariant-loop-items

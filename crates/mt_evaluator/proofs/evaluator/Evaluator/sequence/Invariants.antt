@@ -1,6 +1,6 @@
 use Rattle.std.proofs.Common.{◌≡◌, length}
-use Rattle.mt_slots.specs.Slots as spec
-use Rattle.mt_slots.specs.Slots.{parts}
+use Rattle.mt_eval_meaning.specs.Slots as spec
+use Rattle.mt_eval_meaning.specs.Slots.{parts}
 use Rattle.mt_evaluator.proofs.evaluator.Evaluator.sequence.Given as goal
 
 abbrev pub invariant-loop-items : goal.invariant-loop-items

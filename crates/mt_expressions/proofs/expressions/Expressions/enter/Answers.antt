@@ -1,7 +1,7 @@
 use Rattle.std.proofs.Common.{◌≡◌, ◌-◌, arith, Some, slice_get, subst}
 use Rattle.std.specs.Option.{option_copied}
-use Rattle.mt_evaluation.specs.Runs.{Evals}
-use Rattle.mt_slots.specs.Slots.{function_in, function_body, parts}
+use Rattle.mt_eval_meaning.specs.Runs.{Evals}
+use Rattle.mt_eval_meaning.specs.Slots.{function_in, function_body, parts}
 use Rattle.mt_expressions.proofs.Enters.{no_call, one_call}
 use Rattle.mt_expressions.proofs.expressions.Expressions.enter.Goals as goal
 use Rattle.mt_tree.specs.Limits.{depth_limit}

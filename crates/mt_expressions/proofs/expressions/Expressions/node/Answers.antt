@@ -1,4 +1,4 @@
-use Rattle.mt_slots.specs.Slots.{parts}
+use Rattle.mt_eval_meaning.specs.Slots.{parts}
 use Rattle.mt_expressions.proofs.Nodes.{of_array, of_object, of_call, of_tilde, of_element}
 use Rattle.mt_expressions.proofs.expressions.Expressions.node.Goals as goal
 

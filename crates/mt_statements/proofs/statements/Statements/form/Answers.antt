@@ -1,5 +1,5 @@
 use Rattle.std.specs.Option.{option_copied}
-use Rattle.mt_slots.specs.Slots.{parts}
+use Rattle.mt_eval_meaning.specs.Slots.{parts}
 use Rattle.mt_statements.proofs.Nodes.{of_var, of_if, of_for, of_return, of_block}
 use Rattle.mt_statements.proofs.statements.Statements.form.Goals as goal
 

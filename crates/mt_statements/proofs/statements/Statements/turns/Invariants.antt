@@ -1,8 +1,8 @@
 use Rattle.std.proofs.Common.{◌≡◌}
 use Rattle.std.specs.Option.{option_copied}
-use Rattle.mt_evaluation.specs.Statements as statements
-use Rattle.mt_slots.specs.Slots as spec
-use Rattle.mt_slots.specs.Slots.{parts}
+use Rattle.mt_eval_meaning.specs.Statements as statements
+use Rattle.mt_eval_meaning.specs.Slots as spec
+use Rattle.mt_eval_meaning.specs.Slots.{parts}
 use Rattle.mt_statements.proofs.statements.Statements.turns.Given as goal
 
 abbrev pub invariant-loop-ending : goal.invariant-loop-ending

@@ -1,9 +1,0 @@
-use Rattle.std.proofs.Common.{◌≡◌, ◌++◌, length}
-use Rattle.mt_agreement.specs.Free as spec
-use Rattle.mt_bindings.proofs.scope.cut.Given as goal
-
-abbrev pub invariant-loop-left : goal.invariant-loop-left
-invariant-loop-left l = l.kept.items ++ spec.cut (λ s. s.name) l.wanted.items l.left ≡ spec.cut (λ s. s.name) l.fn.free.items l.scope
-
-abbrev pub decreases-loop-left : goal.decreases-loop-left
-decreases-loop-left l = length l.left

@@ -1,9 +1,0 @@
-use Rattle.std.proofs.Common.{◌≡◌, length}
-use Rattle.mt_agreement.specs.Scopes.{find_slot}
-use Rattle.mt_bindings.proofs.scope.find.Given as goal
-
-abbrev pub invariant-loop-left : goal.invariant-loop-left
-invariant-loop-left l = find_slot l.name l.left ≡ find_slot l.name l.scope
-
-abbrev pub decreases-loop-left : goal.decreases-loop-left
-decreases-loop-left l = length l.left

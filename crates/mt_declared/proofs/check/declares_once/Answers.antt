@@ -1,7 +1,0 @@
-use Rattle.std.proofs.Common.{sym}
-use Rattle.mt_declared.specs.Twice.{twice_in_client}
-use Rattle.mt_declared.proofs.Repeats.{none_tells}
-use Rattle.mt_declared.proofs.check.declares_once.Goals as goal
-
-pub returns : goal.returns
-returns c = none_tells (twice_in_client c.args.body.now) c.in-Ok.found c.is_none.result (sym c.in-Ok.ensures) c.is_none.ensures

@@ -1,0 +1,4 @@
+pub mod Puts
+pub mod Growth
+pub mod Building
+pub mod Parts

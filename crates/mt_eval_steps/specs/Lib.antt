@@ -1,0 +1,4 @@
+pub mod Outcomes
+pub mod Readable
+pub mod Contents
+pub mod Entries

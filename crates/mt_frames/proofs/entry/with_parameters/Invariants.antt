@@ -1,9 +1,0 @@
-use Rattle.std.proofs.Common.{◌≡◌}
-use Rattle.mt_slots.specs.Frames as spec
-use Rattle.mt_frames.proofs.entry.with_parameters.Given as goal
-
-abbrev pub invariant-loop-left : goal.invariant-loop-left
-invariant-loop-left l = spec.with_parameters l.fn.count l.fn.arguments l.fn.frame l.fn.state ≡ spec.with_parameters l.left l.arguments l.frame l.state
-
-abbrev pub decreases-loop-left : goal.decreases-loop-left
-decreases-loop-left l = l.left

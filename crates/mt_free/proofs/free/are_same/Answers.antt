@@ -1,6 +1,0 @@
-use Rattle.std.proofs.Common.{sym, ◌∙◌}
-use Rattle.mt_free.proofs.Words.{same_tables}
-use Rattle.mt_free.proofs.free.are_same.Goals as goal
-
-pub returns : goal.returns
-returns c = λ h. same_tables c.args.names.now c.args.others.now (sym c.eq.ensures ∙ h)

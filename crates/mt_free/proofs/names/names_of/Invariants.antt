@@ -1,6 +1,0 @@
-use Rattle.std.proofs.Common.{◌≡◌, take}
-use Rattle.mt_evaluation.specs.Hoisting.{names_of}
-use Rattle.mt_free.proofs.names.names_of.Given as goal
-
-abbrev pub invariant-loop-mark : goal.invariant-loop-mark
-invariant-loop-mark l = l.names.items ≡ names_of (take l.mark-index l.marks)

@@ -1,7 +1,0 @@
-use Rattle.std.proofs.Common.{◌≡◌}
-use Rattle.mt_agreement.specs.Free.{joined, none}
-use Rattle.mt_syntax.specs.Gathering.{all_of}
-use Rattle.mt_free.proofs.used.Used.all.Given as goal
-
-abbrev pub invariant-loop-used : goal.invariant-loop-used
-invariant-loop-used l = l.all ≡ all_of none joined l.yielded

@@ -1,6 +1,0 @@
-use Rattle.std.proofs.Common.{arith}
-use Rattle.mt_machine.proofs.Tags.{nothing_left}
-use Rattle.mt_machine.proofs.tag.tag_name.Goals as goal
-
-pub returns-else-sign-text : goal.returns-else-sign-text
-returns-else-sign-text c = nothing_left c.args.text.now c.args.sign (omega arith)

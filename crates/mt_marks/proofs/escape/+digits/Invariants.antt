@@ -1,4 +1,0 @@
-use Rattle.mt_marks.proofs.escape.+digits.Given as goal
-
-abbrev pub decreases-digits : goal.decreases-digits
-decreases-digits l = l.count

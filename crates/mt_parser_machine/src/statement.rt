@@ -1,0 +1,136 @@
+//! Where a statement or an item can stand, and behind one.
+
+ghost use Rattle.std.specs.Prelude.{◌+◌, ◌≤◌};
+ghost use Rattle.mt_grammar.specs.Machine as spec;
+ghost use Rattle.mt_parser_marks.specs.Views.{token_of};
+ghost use Rattle.mt_parser_machine.specs.Steps.{Steps};
+ghost use Rattle.mt_parser_machine.specs.Counts.{counted};
+
+use crate::focus::Focus;
+use crate::frame::Frame;
+use crate::machine::{Machine, Step};
+use mt_grammar::{Declaration, Heading, Terminal};
+use mt_parser_marks::{Node, Token};
+use mt_tree::Place;
+
+impl<'a> Machine<'a> {
+    /// A tilde or an element that began there is finished.
+    pub fn settle(&mut self, place: Place) -> Step
+        requires { counted self.old.stack ≤ 1000001 }
+        ensures { Steps result (spec.settled place self.old.stack self.old.nodes) self.new }
+    {
+        match self.stack.pop() {
+            Some(Frame::AttributeValue(tag, count)) => {
+                self.nodes.push(Node::AttributeTilde)?;
+                self.open(Frame::Attributes(tag, count, false), Focus::Word)
+            }
+            Some(Frame::Children(tag, attributes, count)) => {
+                let count = count + 1;
+                self.nodes.push(Node::ChildDirect)?;
+                self.open(Frame::Children(tag, attributes, count), Focus::Word)
+            }
+            Some(top) => self.open(top, Focus::Value(place, false)),
+            None => Ok(Some(Focus::Value(place, false))),
+        }
+    }
+
+    // A function with so many parameters and statements is finished.
+    fn close_function(
+        &mut self,
+        heading: Heading,
+        place: Place,
+        parameters: usize,
+        count: usize,
+    ) -> Step
+        ensures { Steps result (spec.function_closed heading place parameters count self.old.stack self.old.nodes) self.new }
+    {
+        match heading {
+            Heading::Service | Heading::Declaration => {
+                self.finish(
+                    Node::Declare(place, heading, parameters, count),
+                    Focus::Finished,
+                )
+            }
+            Heading::NamedExpression | Heading::Expression => {
+                self.finish(
+                    Node::Function(place, heading, parameters, count),
+                    Focus::Value(place, false),
+                )
+            }
+        }
+    }
+
+    // A closing brace where a statement can stand.
+    fn close_brace(&mut self) -> Step
+        requires { counted self.old.stack ≤ 1000001 }
+        ensures { Steps result (spec.close_brace self.old.stack self.old.nodes) self.new }
+    {
+        match self.stack.pop() {
+            Some(Frame::Block(place, count)) => {
+                self.finish(Node::Block(place, count), Focus::Finished)
+            }
+            Some(Frame::FunctionBody(heading, place, parameters, count)) => {
+                self.close_function(heading, place, parameters, count)
+            }
+            Some(Frame::Tilde(place, count)) => {
+                self.nodes.push(Node::Tilde(place, count))?;
+                self.settle(place)
+            }
+            _ => Ok(None),
+        }
+    }
+
+    // The word of a function or a service.
+    fn item(&mut self, token: Token<'a>, heading: Heading) -> Step
+        ensures { Steps result (spec.item_by (token_of token.entry) heading self.old.stack self.old.nodes) self.new }
+    {
+        match self.stack.pop() {
+            Some(top) => {
+                if !matches!(
+                    top,
+                    Frame::Program(_) | Frame::FunctionBody(..) | Frame::Tilde(..)
+                ) {
+                    return Ok(None);
+                }
+                self.open_in(
+                    top,
+                    Frame::FunctionName(heading, token.mark.place),
+                    Focus::Word,
+                )
+            }
+            None => Ok(None),
+        }
+    }
+
+    /// The first token of a statement or an item, or the `}` of what holds it.
+    pub fn statement(&mut self, token: Token<'a>) -> Step
+        requires { counted self.old.stack ≤ 1000001 }
+        ensures { Steps result (spec.statement_by (token_of token.entry) token.entry.terminal self.old.stack self.old.nodes) self.new }
+    {
+        let place = token.mark.place;
+        match token.terminal {
+            Terminal::Declare(kind) => {
+                self.open(
+                    Frame::DeclName(Declaration::Statement(kind), place, 0),
+                    Focus::Word,
+                )
+            }
+            Terminal::If => self.open(Frame::IfOpen(place), Focus::Word),
+            Terminal::While => self.open(Frame::WhileOpen(place), Focus::Word),
+            Terminal::For => self.open(Frame::ForOpen(place), Focus::Word),
+            Terminal::Return => self.open(Frame::Return(place), Focus::First),
+            Terminal::Jump(jump) => self.open(Frame::Jump(place, jump), Focus::Word),
+            Terminal::Throw => self.open(Frame::Throw(place), Focus::Operand),
+            Terminal::Try => self.open(Frame::TryOpen(place), Focus::Word),
+            Terminal::OpenBrace => self.open(Frame::Block(place, 0), Focus::Statement),
+            Terminal::CloseBrace => self.close_brace(),
+            Terminal::Semicolon => self.finish(Node::Empty(place), Focus::Finished),
+            Terminal::Function => self.item(token, Heading::Declaration),
+            Terminal::Service => self.item(token, Heading::Service),
+            _ => {
+                self.stack.push(Frame::Expression(place))?;
+                self.operand(token)
+            }
+        }
+    }
+}

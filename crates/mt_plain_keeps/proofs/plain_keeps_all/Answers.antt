@@ -1,5 +1,0 @@
-use Rattle.mt_plain_keeps.proofs.Keeping.{keeps_all}
-use Rattle.mt_plain_keeps.proofs.plain_keeps_all.Goals as goal
-
-pub returns : goal.returns
-returns c numbers most small = keeps_all numbers most small

@@ -1,7 +1,0 @@
-use Rattle.std.proofs.Common.{refl}
-use Rattle.std.specs.Prelude.{codes}
-use Rattle.mt_properties.proofs.Names.{same_plain}
-use Rattle.mt_properties.proofs.key.is_length.Goals as goal
-
-pub returns : goal.returns
-returns c = same_plain c.args.name.now (codes "length") c.is.result refl c.is.ensures

@@ -1,5 +1,0 @@
-use Rattle.mt_resolve_further.proofs.Statements.{client_unit_stays}
-use Rattle.mt_resolve_further.proofs.client_code_stays.Goals as goal
-
-pub returns : goal.returns
-returns c around functions more table longer extends u items h = client_unit_stays around functions more table longer extends u items h

@@ -1,3 +1,0 @@
-pub mod Dollars
-pub mod Nodes
-pub mod Shallow

@@ -1,5 +1,0 @@
-use Rattle.mt_script_laws.proofs.Read.{readable_code_is_found}
-use Rattle.mt_script_laws.proofs.code_is_found_in_its_text.Goals as goal
-
-pub returns : goal.returns
-returns c = readable_code_is_found

@@ -1,9 +1,0 @@
-pub mod Tokens
-pub mod Marks
-pub mod Derived
-pub mod Bounds
-pub mod Nodes
-pub mod Parts
-pub mod Kept
-pub mod Built
-pub mod Short

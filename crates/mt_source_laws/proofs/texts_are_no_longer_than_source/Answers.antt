@@ -1,5 +1,0 @@
-use Rattle.mt_source_laws.proofs.Short.{short}
-use Rattle.mt_source_laws.proofs.texts_are_no_longer_than_source.Goals as goal
-
-pub returns : goal.returns
-returns c s end program answers = short s end program answers

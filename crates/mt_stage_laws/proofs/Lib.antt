@@ -1,8 +1,0 @@
-pub mod Empty
-pub mod Jumps
-pub mod Limits
-pub mod Names
-pub mod Places
-pub mod Plain
-pub mod Texts
-pub mod Tildes

@@ -1,5 +1,0 @@
-use Rattle.mt_stage_laws.proofs.Limits.{within_limits}
-use Rattle.mt_stage_laws.proofs.tildes_become_code_within_limits.Goals as goal
-
-pub returns : goal.returns
-returns c p number t values accepted is enough limits = within_limits p number t values accepted is enough limits
