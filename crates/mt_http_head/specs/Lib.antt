@@ -1,0 +1,4 @@
+pub mod Fields
+pub mod Parsed
+pub mod Points
+pub mod Targets
