@@ -99,7 +99,7 @@ small_character c low =
 scalar_small : (c : ℕ) → scalar c ≡ true → c < 1114112
 scalar_small c e = grind (arith, nat_tests)
 
-small_bytes : (cs : List ℕ) → all_scalars cs ≡ true → All IsByte (encode_utf8_all cs)
+pub small_bytes : (cs : List ℕ) → all_scalars cs ≡ true → All IsByte (encode_utf8_all cs)
 small_bytes [] e = All-nil IsByte
 small_bytes (c ∷ cs) e =
     let both = and_parts (scalar c) (all_scalars cs) e in
