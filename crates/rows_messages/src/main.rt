@@ -4,6 +4,7 @@
 #![tactic(auto)]
 
 mod reading;
+mod requests;
 mod writing;
 
 use anyhow::{Result, bail};
@@ -30,6 +31,10 @@ fn answer(alloc: Global, line: &Line) -> Result<String> {
         "stream" => reading::stream(alloc, line),
         "long_reply" => reading::long(alloc, line),
         "cuts" => reading::cuts(alloc, line),
+        "request" => requests::request(alloc, line),
+        "long_request" => requests::long(alloc, line),
+        "decides" => requests::decides(alloc, line),
+        "request_cuts" => requests::cuts(alloc, line),
         other => bail!("no call {other}"),
     }
 }
