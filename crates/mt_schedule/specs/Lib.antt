@@ -1,0 +1,4 @@
+pub mod Command
+pub mod Echo
+pub mod Reading
+pub mod Schedule
