@@ -38,7 +38,7 @@ use Rattle.mt_script_read.proofs.Clauses.{HeldDecl, by_keyword, decls_read, look
 -- ---- blocks in other statements
 
 -- an expression that may be absent, beside other parts
-clean_optional : {pl fi no : Bool} {lo : ℕ} {wi : Bool} (o : Option Expr)
+pub clean_optional : {pl fi no : Bool} {lo : ℕ} {wi : Bool} (o : Option Expr)
     → Clean (or_none true (λ a b. a && b) (option_map (on_expr testing_plain) o) && pl) (or_none true (λ a b. a && b) (option_map (on_expr testing_filled) o) && fi) (or_none true (λ a b. a && b) (option_map (on_expr testing_nowhere) o) && no)
     (max (or_none 0 max (option_map (on_expr measuring_texts) o)) lo) (or_none true (λ a b. a && b) (option_map (on_expr testing_within) o) && wi)
     → IsCleanIfAny sort.Expr o × Clean pl fi no lo wi
@@ -161,7 +161,7 @@ abbrev pub HeldStart : Type 0
 HeldStart = (s : ForStart) × (Good sort.ForStart s → StartReads s)
 
 -- what stands behind the start, beside its form
-abbrev CleanRest : Option Expr → Option Expr → Stmt → Type 0
+abbrev pub CleanRest : Option Expr → Option Expr → Stmt → Type 0
 CleanRest test step body =
     Clean (or_none true (λ a b. a && b) (option_map (on_expr testing_plain) test) && (or_none true (λ a b. a && b) (option_map (on_expr testing_plain) step) && on_stmt testing_plain body))
     (or_none true (λ a b. a && b) (option_map (on_expr testing_filled) test) && (or_none true (λ a b. a && b) (option_map (on_expr testing_filled) step) && on_stmt testing_filled body))

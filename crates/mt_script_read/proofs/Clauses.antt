@@ -73,7 +73,7 @@ some_item : (ds : List Decl) → is_some_item (map (on_decl shaping) ds) ≡ tru
 some_item [] h = h
 some_item (d ∷ ds) h = refl
 
-declared_fit : (kind : VarKind) (ds : List Decl) → decls_fit kind (map (on_decl shaping) ds) ≡ true → (are_declared kind ds ≡ true) × (all_fit (map (on_decl shaping) ds) ≡ true)
+pub declared_fit : (kind : VarKind) (ds : List Decl) → decls_fit kind (map (on_decl shaping) ds) ≡ true → (are_declared kind ds ≡ true) × (all_fit (map (on_decl shaping) ds) ≡ true)
 declared_fit word.Var ds h = let parts = and_parts (is_some_item (map (on_decl shaping) ds)) (all_fit (map (on_decl shaping) ds)) h in (some_item ds parts.0, parts.1)
 declared_fit word.Let ds h = let parts = and_parts (is_some_item (map (on_decl shaping) ds)) (all_fit (map (on_decl shaping) ds)) h in (some_item ds parts.0, parts.1)
 declared_fit word.Const ds h =
@@ -267,7 +267,7 @@ reads_expression a g =
 
 -- ---- a block, also as the body of another statement
 
-statements_fit : (ss : List Stmt) → list_all (λ p. is_statement p.look && p.fits) (map (on_stmt shaping) ss) ≡ true → (all_fit (map (on_stmt shaping) ss) ≡ true) × (are_statements ss ≡ true)
+pub statements_fit : (ss : List Stmt) → list_all (λ p. is_statement p.look && p.fits) (map (on_stmt shaping) ss) ≡ true → (all_fit (map (on_stmt shaping) ss) ≡ true) × (are_statements ss ≡ true)
 statements_fit [] h = (refl, refl)
 statements_fit (s ∷ ss) h =
     let parts = and_parts (is_statement (on_stmt shaping s).look && (on_stmt shaping s).fits) (list_all (λ p. is_statement p.look && p.fits) (map (on_stmt shaping) ss)) h in

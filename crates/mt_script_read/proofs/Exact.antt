@@ -1,5 +1,5 @@
 -- What reading finds is the code of the text, where there is one.
-use Rattle.std.proofs.Common.{◌≡◌, ℕ, List, Some, None, refl, sym, ap, ◌∙◌}
+use Rattle.std.proofs.Common.{◌≡◌, ℕ, List, Some, None, sym, ap, ◌∙◌}
 use Rattle.mt_syntax.specs.CodeText.{code_text}
 use Rattle.mt_syntax.specs.declared.tree.Stmt.{Stmt}
 use Rattle.mt_stage.specs.CodeLimits.{IsCodeWithinLimits}
@@ -15,6 +15,3 @@ none_found bytes body none w text = let e : None ≡ Some body = sym none ∙ fo
 
 pub only_found : (bytes : List ℕ) (body found : List Stmt) → stmts_at 60 bytes ≡ Some found → IsCodeWithinLimits body → code_text body ≡ bytes → body ≡ found
 only_found bytes body found read w text = let e : Some body ≡ Some found = sym (found_is bytes body w text) ∙ read in cc
-
-pub one_text : (a b : List Stmt) → IsCodeWithinLimits a → IsCodeWithinLimits b → code_text a ≡ code_text b → a ≡ b
-one_text a b v w same = only_found (code_text b) a b (found_is (code_text b) b w refl) v same

@@ -147,7 +147,7 @@ pub block_bytes : (ss : List Stmt) (rest : List ℕ) → (flat_map (λ t. t) (ma
 block_bytes ss rest = append_assoc (flat_map (λ t. t) (map stmt_text ss)) (125 ∷ []) rest ∙ ap (λ s. s ++ 125 ∷ rest) (flat_by_map stmt_text ss)
 
 -- whether a function's own name has the form of one
-abbrev name_fits : Option Mark → Bool
+abbrev pub name_fits : Option Mark → Bool
 name_fits None = true
 name_fits (Some m) = mark_fits m
 

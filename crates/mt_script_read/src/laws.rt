@@ -1,44 +1,48 @@
+ghost use Rattle.mt_script_read.specs.CodeAt.{code_at};
 ghost use Rattle.mt_script_read.specs.Differing.{DifferAt};
+ghost use Rattle.mt_script_read.specs.Fills.{Fills, IsAcceptedTilde, IsReadWith};
 ghost use Rattle.mt_script_read.specs.Readable.{IsReadable};
 ghost use Rattle.mt_script_read.specs.Reads.{Reads};
 ghost use Rattle.mt_script_tree.specs.Reading.{stmts_at};
-ghost use Rattle.mt_stage.specs.Accepted.{IsAccepted};
 ghost use Rattle.mt_stage.specs.CodeLimits.{IsCodeWithinLimits};
 ghost use Rattle.mt_syntax.specs.CodeText.{code_text};
-ghost use Rattle.mt_syntax.specs.DataLimits.{AreWithinLimits};
+ghost use Rattle.mt_syntax.specs.Codes.{IsCode};
 ghost use Rattle.mt_syntax.specs.Depth.{depth_of};
 ghost use Rattle.mt_syntax.specs.Numbering.{values_of};
 ghost use Rattle.mt_syntax.specs.Substitution.{subst};
-ghost use Rattle.mt_syntax.specs.declared.program.Program.{Program};
 ghost use Rattle.mt_syntax.specs.declared.program.Tilde.{Tilde};
 ghost use Rattle.mt_syntax.specs.declared.tree.Stmt.{Stmt};
 ghost use Rattle.mt_syntax_laws.specs.Blanked.{blanked};
 ghost use Rattle.mt_tree.specs.declared.data.Data.{Data};
-ghost use Rattle.std.specs.Prelude.{◌≡◌, ℕ, List, length, slice_get, Some, ◌≤◌};
+ghost use Rattle.std.specs.Prelude.{◌≡◌, ℕ, List, Some, length, ◌≤◌};
 
-/// No two codes within the limits have one text.
+/// No two codes have one text, also beyond every limit.
 pub fn one_text_for_each_code()
-    ensures { (a b : List Stmt) → IsCodeWithinLimits a → IsCodeWithinLimits b → code_text a ≡ code_text b → a ≡ b }
+    ensures { (a b : List Stmt) → IsCode a → IsCode b → code_text a ≡ code_text b → a ≡ b }
+{}
+
+/// Code within the limits is found in its text, and what is found in bytes is code within the limits that has just these bytes as
+/// its text.
+pub fn code_is_found_in_just_its_text()
+    ensures found { (body : List Stmt) → IsCodeWithinLimits body → code_at (code_text body) ≡ Some body }
+    ensures alone { (bytes : List ℕ) (body : List Stmt) → code_at bytes ≡ Some body → Reads bytes body }
 {}
 
 /// The text that a tilde of an accepted program has with data for its dollars is read, and what is read is the code of the tilde with
 /// each of the data as a value in the place of its dollar, whatever characters it holds: no datum is read as code.
 pub fn values_are_read_as_values()
-    ensures read { (p : Program) (number : ℕ) (t : Tilde) (values : List Data) → IsAccepted p → slice_get p.tildes number ≡ Some t → length values ≡ length t.dollars → AreWithinLimits values
-        → Reads (code_text (subst values t.body)) (subst values t.body) }
-    ensures alone { (p : Program) (number : ℕ) (t : Tilde) (values : List Data) (read : List Stmt) → IsAccepted p → slice_get p.tildes number ≡ Some t → length values ≡ length t.dollars → AreWithinLimits values
-        → Reads (code_text (subst values t.body)) read → read ≡ subst values t.body }
-    ensures values { (p : Program) (number : ℕ) (t : Tilde) (values : List Data) → IsAccepted p → slice_get p.tildes number ≡ Some t → length values ≡ length t.dollars → values_of (subst values t.body) ≡ values }
+    ensures read { (tilde : Tilde) (values : List Data) → Fills tilde values → IsReadWith tilde values (subst values tilde.body) }
+    ensures alone { (tilde : Tilde) (values : List Data) (code : List Stmt) → IsReadWith tilde values code → code ≡ subst values tilde.body }
+    ensures values { (tilde : Tilde) (values : List Data) → IsAcceptedTilde tilde → length values ≡ length tilde.dollars → values_of (subst values tilde.body) ≡ values }
 {}
 
 /// The codes that are read from two texts of one tilde of an accepted program differ in the data of their values alone, and these are
 /// the data that were given: where the lists differ in one place alone, so do the values of the codes.
 pub fn only_values_differ()
-    ensures given { (p : Program) (number : ℕ) (t : Tilde) (ds es : List Data) (read other : List Stmt) → IsAccepted p → slice_get p.tildes number ≡ Some t → length ds ≡ length t.dollars → length es ≡ length t.dollars → AreWithinLimits ds → AreWithinLimits es
-        → Reads (code_text (subst ds t.body)) read → Reads (code_text (subst es t.body)) other → (blanked read ≡ blanked other) × ((values_of read ≡ ds) × (values_of other ≡ es)) }
-    ensures one_place { (i : ℕ) (p : Program) (number : ℕ) (t : Tilde) (ds es : List Data) (read other : List Stmt) → IsAccepted p → slice_get p.tildes number ≡ Some t → length ds ≡ length t.dollars → length es ≡ length t.dollars → AreWithinLimits ds → AreWithinLimits es
-        → Reads (code_text (subst ds t.body)) read → Reads (code_text (subst es t.body)) other → DifferAt i ds es
-        → (blanked read ≡ blanked other) × DifferAt i (values_of read) (values_of other) }
+    ensures given { (tilde : Tilde) (ds es : List Data) (code other : List Stmt) → IsReadWith tilde ds code → IsReadWith tilde es other
+        → (blanked code ≡ blanked other) × ((values_of code ≡ ds) × (values_of other ≡ es)) }
+    ensures one_place { (i : ℕ) (tilde : Tilde) (ds es : List Data) (code other : List Stmt) → IsReadWith tilde ds code → IsReadWith tilde es other
+        → DifferAt i ds es → (blanked code ≡ blanked other) × DifferAt i (values_of code) (values_of other) }
 {}
 
 /// In the text of code that is at most so deep this code is found.

@@ -10,10 +10,16 @@
 //! the parts of a tree to the whole: `Goodness` is what is known of each node, `Read` that each is found in its text, and `Found` with the
 //! files beside it that what is found is good.
 //!
-//! `Reads` in `specs` says which code is read from bytes, `Walking` which values are met on a walk over a tree that is not too
-//! deep, and `Differing` which lists of data differ in one place alone. Further laws say that no two codes have one text, and that the
-//! code that is read from the text of a tilde of an accepted program has just the data that were put in, each in its dollar's
-//! place, whatever characters they hold. The reader of pages stands on this crate.
+//! `Reads` in `specs` says which code is read from bytes, and `CodeAt` gives it as a function of the bytes, for definitions of what
+//! stands above; the law [`code_is_found_in_just_its_text`] says that they mean the same. `Walking` says which values are met on a walk
+//! over a tree that is not too deep, `Fills` which data fill the dollars of a tilde of an accepted program, and `Differing` which lists
+//! of data differ in one place alone. Further laws say that the code that is read from the text of a filled tilde has just the data that
+//! were put in, each in its dollar's place, whatever characters they hold. The reader of pages stands on this crate.
+//!
+//! The law [`one_text_for_each_code`] says that no two codes have one text, whatever limits they pass, though what finds the code follows
+//! no text or value beyond its limit. In `proofs`, `Shortened` puts short leaves in the place of a tree's names, texts and values, and
+//! `ShortenedCode` says that code with these is found in its text; `Leaves` and `Refilled` say that a tree is made again of its own
+//! leaves; `Tokens` and the files on what is spelled say that a text tells both; and `OneText` joins them.
 #![tactic(auto)]
 
 mod laws;
@@ -21,8 +27,8 @@ mod reading;
 mod walk;
 
 pub use laws::{
-    code_is_found_in_its_text, one_text_for_each_code, only_values_differ,
-    values_are_read_as_values, what_is_found_is_code,
+    code_is_found_in_its_text, code_is_found_in_just_its_text, one_text_for_each_code,
+    only_values_differ, values_are_read_as_values, what_is_found_is_code,
 };
 pub use mt_script_words::CodeRefusal;
 pub use reading::read_code;

@@ -6,7 +6,9 @@ ghost use Rattle.mt_syntax.specs.DataLimits.{AreWithinLimits};
 ghost use Rattle.mt_syntax.specs.declared.tree.Stmt.{Stmt};
 ghost use Rattle.mt_stage_placement.specs.Placement.{misplaced_jumps};
 ghost use Rattle.mt_stage_declared.specs.Twice.{twice_in_client};
+ghost use Rattle.mt_script_words.specs.Outcome.{Gives};
 ghost use Rattle.mt_script_words.specs.declared.refusal.CodeRefusal.TheVariants as refusal;
+ghost use Rattle.mt_script_read.specs.CodeAt.{code_at};
 ghost use Rattle.mt_script_read.specs.Reads.{Reads};
 
 use crate::walk::stmts;
@@ -67,6 +69,7 @@ fn is_same(a: &[u8], b: &[u8]) -> bool
 pub fn read_code(alloc: Global, bytes: &[u8]) -> Result<Code, CodeRefusal>
     ensures read { IfOk result (λ code. Reads bytes.now code.body) }
     ensures refused { result ≡ Err refusal.NotCode → (body : List Stmt) → ¬ Reads bytes.now body }
+    ensures function { Gives (λ code. code.body) result (code_at bytes.now) }
 {
     let body = read_statements(alloc, DEPTH, bytes)?;
     let mut values = Vec::new(alloc);

@@ -4,10 +4,12 @@ use crate::words::{refused, text_of};
 use anyhow::{Context, Result, ensure};
 use mt_json::read_arguments;
 use mt_script_read::read_code;
+use mt_script_tree::read_statements;
 use mt_script_write::{code_text, write_code};
 use mt_source::read_source;
-use mt_syntax::substitute;
-use mt_tree::SOURCE_LIMIT;
+use mt_stage::fits_client;
+use mt_syntax::{Code, substitute};
+use mt_tree::{DEPTH_LIMIT, SOURCE_LIMIT};
 use rows::{Line, made};
 use std::alloc::Global;
 
@@ -23,6 +25,14 @@ pub fn read(alloc: Global, line: &Line) -> Result<String> {
         }
         Err(refusal) => refused(alloc, refusal),
     }
+}
+
+/// Whether what is found leniently in the bytes keeps the rules on names that are declared twice and on jumps.
+pub fn fitting(alloc: Global, line: &Line) -> Result<String> {
+    let bytes = line.bytes(alloc, 0)?;
+    let body = made(read_statements(alloc, DEPTH_LIMIT as u32, bytes.as_slice()))?;
+    let fits = fits_client(&Code { body });
+    Ok(format!(in alloc; "{fits}")?)
 }
 
 /// The text of the first tilde of a source with values in place of its dollars: at once, or from the code that substitution gives.

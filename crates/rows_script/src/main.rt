@@ -1,6 +1,6 @@
 //! Calls of the crates of client code, one for each line of standard input, and an answer for each on standard output: the words, literals
-//! and operators that code begins with, code that is read, and code that is written from a tilde with values. A line that begins with `#`
-//! is printed as it is.
+//! and operators that code begins with, code that is read or found, and code that is written from a tilde with values. A line that begins
+//! with `#` is printed as it is.
 //!
 //! It promises nothing: its answers are compared with `stdout`, which is written from the rules of the language.
 #![tactic(auto)]
@@ -38,6 +38,7 @@ fn answer(alloc: Global, line: &Line) -> Result<String> {
         "number" => words::numbered(alloc, line),
         "datum" => words::data(alloc, line),
         "read_code" => code::read(alloc, line),
+        "fits_client" => code::fitting(alloc, line),
         "write_code" | "substitute" => code::written(alloc, line),
         other => bail!("no call {other}"),
     }
