@@ -3,10 +3,10 @@
 ghost use Rattle.std.specs.Prelude.{◌<◌, length};
 
 use crate::texts::text_of;
-use anyhow::{Context, Result};
+use anyhow::{Context, Result, bail};
 use mt_json::read_data;
 use mt_marshal::{build, snapshot};
-use mt_tree::{Buffer, Text};
+use mt_tree::{Buffer, Text, push};
 use mt_value::{Address, Cell, Globals, Store, Value};
 use rows::{Line, add, made};
 use std::alloc::Global;
@@ -25,18 +25,37 @@ pub fn built(alloc: Global, line: &Line) -> Result<String> {
 /// there before, as it is read and as it is given back, what the cells hold then, and what another store holds at the first address.
 pub fn cells(alloc: Global, line: &Line) -> Result<String> {
     let mut store = Store::new(alloc);
-    let first = made(store.add(Cell::Variable(None)))?;
-    let second = made(store.add(Cell::Arr(Buffer::new(alloc))))?;
-    let third = made(store.add(variable(line.number(0)?)))?;
-    let cell = variable(line.number(1)?);
-    let mut all = match store.get(first) {
-        Some(_) => exchanged(alloc, &mut store, first, cell)?,
-        None => String::new(alloc),
-    };
-    add(&mut all, &described(alloc, store.get(first))?)?;
-    add(&mut all, &described(alloc, store.get(second))?)?;
-    add(&mut all, &described(alloc, store.get(third))?)?;
+    let places = filled(alloc, &mut store, line.number(0)?)?;
+    let first = places.as_slice().first().copied().context("no cell")?;
+    let mut all = replaced(alloc, &mut store, first, line.number(1)?)?;
+    add(&mut all, &listed(alloc, &store, places.as_slice())?)?;
     add(&mut all, &described(alloc, Store::new(alloc).get(first))?)?;
+    Ok(all)
+}
+
+// The addresses of the cells that are added.
+fn filled(alloc: Global, store: &mut Store, number: i64) -> Result<Vec<Address>> {
+    let mut places = Vec::new(alloc);
+    made(push(&mut places, made(store.add(Cell::Variable(None)))?))?;
+    made(push(&mut places, made(store.add(Cell::Arr(Buffer::new(alloc))))?))?;
+    made(push(&mut places, made(store.add(variable(number)))?))?;
+    Ok(places)
+}
+
+// Gives the variable at an address a number, and gives what stood there.
+fn replaced(alloc: Global, store: &mut Store, at: Address, number: i64) -> Result<String> {
+    match store.get(at) {
+        Some(_) => exchanged(alloc, store, at, variable(number)),
+        None => bail!("no cell"),
+    }
+}
+
+// What the cells hold.
+fn listed(alloc: Global, store: &Store, places: &[Address]) -> Result<String> {
+    let mut all = String::new(alloc);
+    for place in places.iter() {
+        add(&mut all, &described(alloc, store.get(*place))?)?;
+    }
     Ok(all)
 }
 
