@@ -1,12 +1,15 @@
 -- Digits are their own bytes, and no byte of another character is one.
-use Rattle.std.proofs.Common.{◌≡◌, ℕ, ◌+◌, ◌/◌, ◌≤◌, Bool, true, false, ◌&&◌, not, eqb, List, [], ◌∷◌, ◌++◌, refl, sym, ap, ◌∙◌, inl, inr, arith}
+use Rattle.std.proofs.Common.{◌≡◌, ℕ, ◌+◌, ◌/◌, ◌<◌, ◌≤◌, Bool, true, false, ◌&&◌, not, eqb, List, [], ◌∷◌, ◌++◌, refl, sym, ap, ◌∙◌, inl, inr, arith}
 use Rattle.std.specs.List.{list_all}
 use Rattle.std.proofs.lemmas.Bool.{lt-ltb, le-ltb, cases_lt}
 use Rattle.std.proofs.lemmas.Str.{encode_ascii}
 use lib.Utf8.{encode, encodes, next}
 use Rattle.mt_syntax.specs.Data.{is_digit, spells_whole_number}
 use Rattle.mt_json.proofs.Again.{Begins}
-use Rattle.mt_json.proofs.Digits.{is_digit-high}
+use Rattle.std.proofs.lemmas.Bool.Decides.{nat_tests}
+
+is_digit-high : (b : ℕ) → 57 < b → is_digit b ≡ false
+is_digit-high b high = grind (arith, nat_tests)
 
 begins_high : (c : ℕ) → 128 ≤ c → Begins (encode c) (λ b. 128 ≤ b)
 unfolding encode

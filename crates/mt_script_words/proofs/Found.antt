@@ -1,21 +1,19 @@
 -- What is read has the form of code.
-use Rattle.std.proofs.Common.{◌≡◌, ℕ, Bool, true, false, ◌&&◌, eqb, List, drop, Option, Some, None, refl, subst}
+use Rattle.std.proofs.Common.{◌≡◌, ℕ, Bool, true, false, eqb, List, drop, Option, Some, None, refl, subst}
 use Rattle.std.specs.Prelude.{if◌then◌else◌}
-use Rattle.std.specs.Str.{all_scalars, bytes_eq, chars, is_utf8}
-use Rattle.std.proofs.lemmas.Bool.{and_parts}
+use Rattle.std.specs.Str.{all_scalars, chars, is_utf8}
 use Rattle.std.proofs.lemmas.Str.{IsUtf8-from_is_utf8, scalars-chars}
-use Rattle.mt_tree.specs.declared.data.Data.{Data}
-use Rattle.mt_syntax.specs.DataText.{data_text}
 use Rattle.mt_syntax.specs.Names.{is_name}
 use Rattle.mt_syntax.specs.Shape.{is_assignment, is_number}
 use Rattle.mt_tree.specs.declared.operators.Binary.{Binary}
 use Rattle.mt_tree.specs.declared.operators.Binary.TheVariants as binary
-use Rattle.mt_json.specs.Reading.{◌>>=◌, first_at, value}
+use Rattle.mt_json.specs.Reading.{◌>>=◌, first_at}
+use Rattle.mt_json.proofs.DataAt.{alone_by, data_at_gives}
 use Rattle.mt_script_words.specs.Literals.{string_at, text_at}
 use Rattle.mt_script_words.specs.Operators.{arithmetic, comparison, equals, operator_at, operator_from}
 use Rattle.mt_script_words.specs.declared.operators.Operator.{Operator}
 use Rattle.mt_script_words.specs.declared.operators.Operator.TheVariants as operator
-use Rattle.mt_script_words.specs.Values.{datum_of, is_within, number_in, number_of, spelled_by, unsigned}
+use Rattle.mt_script_words.specs.Values.{datum_of, is_within, number_in, number_of, unsigned}
 use Rattle.mt_script_words.specs.Words.{is_short, name_of, short, text_in}
 
 -- where something is found, it is of this kind
@@ -69,12 +67,8 @@ texts_found bytes =
 
 -- ---- data and numbers
 
-spelled_finds : (bytes : List ℕ) (d : Data) → Finds (λ d. is_within d ≡ true) (spelled_by bytes d)
-spelled_finds bytes d = finds_if (is_within d && bytes_eq (data_text d) bytes) (Some d) None (λ e. finds _ d (and_parts (is_within d) (bytes_eq (data_text d) bytes) e).0) (λ e. finds_nothing _)
-
 pub data_found : (bytes : List ℕ) → Finds (λ d. is_within d ≡ true) (datum_of bytes)
-unfolding datum_of
-data_found bytes = then_finds {P = λ s. Unit {0}} (value 40 bytes) _ (λ s e. tt) (λ x u. spelled_finds bytes x.0)
+data_found bytes d e = alone_by d (data_at_gives bytes d e).0
 
 pub numbers_found : (word : List ℕ) → Finds (λ z. is_number z ≡ true) (number_of word)
 unfolding number_of

@@ -1,26 +1,23 @@
 -- A datum within the limits is read from its tagged JSON, and a number from its digits.
-use Rattle.std.proofs.Common.{◌≡◌, ℕ, ◌+◌, ◌%◌, ◌<◌, ◌≤◌, ◌^◌, ℤ, pos, negsuc, Bool, true, false, ◌&&◌, List, [], ◌∷◌, ◌++◌, Option, Some, None, refl, sym, ap, ◌∙◌, arith, rules}
-use Rattle.std.specs.Prelude.{if◌then◌else◌, nat_le}
+use Rattle.std.proofs.Common.{◌≡◌, ℕ, ◌+◌, ◌%◌, ◌<◌, ◌≤◌, ◌^◌, ℤ, pos, negsuc, true, ◌&&◌, List, [], ◌∷◌, ◌++◌, Some, None, refl, sym, ap, ◌∙◌, arith, rules}
+use Rattle.std.specs.Prelude.{nat_le}
 use Rattle.std.specs.Fmt.{signed_decimal}
 use Rattle.std.specs.List.{list_all}
-use Rattle.std.specs.Str.{bytes_eq}
 use Rattle.std.proofs.lemmas.Bool.{and_from, and_parts, leb-true, le-leb, ltb-true}
 use Rattle.std.proofs.lemmas.Bool.Decides.{nat_tests}
 use Rattle.std.proofs.lemmas.Fmt.{decimal_by_steps}
 use Rattle.std.proofs.lemmas.List.Folds.{list_all-append}
-use Rattle.std.proofs.lemmas.Slice.Eq.{bytes_eq-Decides}
 use Rattle.mt_tree.specs.declared.data.Data.{Data, the_lemmas}
 use Rattle.mt_tree.specs.declared.data.Data as made
 use Rattle.mt_syntax.specs.Data.{is_data, is_in_range}
 use Rattle.mt_syntax.specs.DataLimits.{AreWithinLimits, bytes_of_data, depth_of_data, nodes_of_data}
 use Rattle.mt_syntax.specs.DataText.{data_text}
 use Rattle.mt_syntax.specs.Shape.{is_number}
-use Rattle.mt_json.specs.Reading.{◌>>=◌, value}
 use Rattle.mt_json.proofs.Again.{Begins}
-use Rattle.mt_json.proofs.Readings.{found_is}
+use Rattle.mt_json.proofs.DataAt.{data_at_none, data_at_text}
 use Rattle.mt_script_words.specs.Words.{is_word_byte}
 use Rattle.mt_script_words.proofs.PlainWords.{IsDigitByte}
-use Rattle.mt_script_words.specs.Values.{datum_of, is_within, number_in, number_of, spelled_by}
+use Rattle.mt_script_words.specs.Values.{datum_of, is_within, number_in, number_of}
 use Rattle.mt_tree.specs.Limits.{data_byte_limit, data_node_limit, data_depth_limit}
 
 pub record Within (d : Data) : Type 0 where
@@ -46,14 +43,8 @@ alone d w = record { «data» = and_from (is_data d) true w.data refl; depth = o
 pub within_alone : (d : Data) → AreWithinLimits (d ∷ []) → Within d
 within_alone d w = record { «data» = (and_parts (is_data d) true w.data).0; depth = omega (arith, w.depth); nodes = omega (arith, w.nodes); bytes = omega (arith, w.bytes) }
 
-same_bytes : (bytes : List ℕ) → bytes_eq bytes bytes ≡ true
-same_bytes bytes = (bytes_eq-Decides bytes bytes).1 refl
-
 pub datum_read : (d : Data) → is_within d ≡ true → datum_of (data_text d) ≡ Some d
-unfolding datum_of
-datum_read d h =
-    let found : value 40 (data_text d) ≡ Some (d, []) = found_is (data_text d) d (alone d (within d h)) refl in
-    rw (found, h, same_bytes (data_text d)) refl
+datum_read d h = data_at_text d (alone d (within d h))
 
 -- ---- numbers
 
@@ -120,19 +111,5 @@ number_is_decimal (negsuc n) h = absurd cc
 pub datum_found : (bytes : List ℕ) (d : Data) → AreWithinLimits (d ∷ []) → data_text d ≡ bytes → datum_of bytes ≡ Some d
 datum_found bytes d w text = ap datum_of (sym text) ∙ datum_read d (is_within_by d (within_alone d w))
 
-spelled_none : (bytes : List ℕ) (d : Data) → (AreWithinLimits (d ∷ []) → data_text d ≡ bytes → ⊥) → spelled_by bytes d ≡ None
-spelled_none bytes d h = by (is_within d && bytes_eq (data_text d) bytes) refl
-  where
-    by : (b : Bool) → (is_within d && bytes_eq (data_text d) bytes) ≡ b → (if b then Some d else None) ≡ None
-    by false e = refl
-    by true e =
-        let parts = and_parts (is_within d) (bytes_eq (data_text d) bytes) e in
-        absurd (h (alone d (within d parts.0)) ((bytes_eq-Decides (data_text d) bytes).0 parts.1))
-
 pub datum_refused : (bytes : List ℕ) → ((d : Data) → AreWithinLimits (d ∷ []) → data_text d ≡ bytes → ⊥) → datum_of bytes ≡ None
-unfolding datum_of
-datum_refused bytes h = by (value 40 bytes)
-  where
-    by : (o : Option (Data × List ℕ)) → (o >>= λ x. spelled_by bytes x.0) ≡ None
-    by None = refl
-    by (Some x) = spelled_none bytes x.0 (h x.0)
+datum_refused bytes h = data_at_none bytes h
