@@ -23,12 +23,12 @@ fn expr_to<H: Host>(
     functions: &[Function],
     calls: usize,
     depth: usize,
-    frame: &[Address],
+    activation: &[Address],
     state: &mut State,
     host: &mut H,
     e: &Expr,
 ) -> Result<Value, Exit>
-    ensures { Evals ((parts functions.now H.meaning calls depth).expr e.now frame.now (state.old, host.old)) result (state.new, host.new) }
+    ensures { Evals ((parts functions.now H.meaning calls depth).expr e.now activation.now (state.old, host.old)) result (state.new, host.new) }
 {
     if depth == 0 {
         return Err(Exit::Stop(Stop::Depth));
@@ -42,7 +42,7 @@ fn expr_to<H: Host>(
         stmt: stmt_to,
         host: PhantomData,
     };
-    Expressions { level }.node(frame, state, host, e)
+    Expressions { level }.node(activation, state, host, e)
 }
 
 #[cycle(evaluate)]
@@ -51,12 +51,12 @@ fn stmt_to<H: Host>(
     functions: &[Function],
     calls: usize,
     depth: usize,
-    frame: &[Address],
+    activation: &[Address],
     state: &mut State,
     host: &mut H,
     t: &Stmt,
 ) -> Result<Completion, Exit>
-    ensures { Evals ((parts functions.now H.meaning calls depth).stmt t.now frame.now (state.old, host.old)) result (state.new, host.new) }
+    ensures { Evals ((parts functions.now H.meaning calls depth).stmt t.now activation.now (state.old, host.old)) result (state.new, host.new) }
 {
     if depth == 0 {
         return Err(Exit::Stop(Stop::Depth));
@@ -70,7 +70,7 @@ fn stmt_to<H: Host>(
         stmt: stmt_to,
         host: PhantomData,
     };
-    Statements { level }.node(frame, state, host, t)
+    Statements { level }.node(activation, state, host, t)
 }
 
 /// Runs the code of a tier.
@@ -87,7 +87,7 @@ pub fn run_unit<H: Host>(
 ) -> Result<Value, Exit>
     ensures { Evals (spec.unit functions.now H.meaning unit.now (state.old, host.old)) result (state.new, host.new) }
 {
-    let frame = enter_unit(alloc, functions, state, unit)?;
+    let activation = enter_unit(alloc, functions, state, unit)?;
     let level = Evaluator {
         alloc,
         functions,
@@ -98,7 +98,7 @@ pub fn run_unit<H: Host>(
         host: PhantomData,
     };
     let items = unit.body.statements.items();
-    Expressions { level }.body(CALL_LIMIT, DEEPEST, frame.items(), state, host, items)
+    Expressions { level }.body(CALL_LIMIT, DEEPEST, activation.items(), state, host, items)
 }
 
 /// Calls a value; the call itself isn't counted.

@@ -27,7 +27,7 @@ use Rattle.mt_eval_meaning.specs.declared.exit.Exit.TheVariants as exit
 use Rattle.mt_eval_meaning.specs.declared.exit.Stop.TheVariants as stop
 use Rattle.mt_eval_meaning.specs.declared.state.State.{State}
 use Rattle.mt_ops.specs.declared.error.ErrorKind.TheVariants as error
-use Rattle.mt_eval_meaning.specs.Frames.{Frame}
+use Rattle.mt_eval_meaning.specs.Activations.{Activation}
 use Rattle.mt_eval_meaning.specs.Slots as slots
 use Rattle.mt_eval_meaning.specs.Slots.{function_in}
 use Rattle.mt_eval_meaning.specs.declared.expr.Expr as code
@@ -142,33 +142,33 @@ module _ {H : Type 0} (around : Surroundings) (units : List Code) (table : List 
   module _ (m : slots.Enter H) (n : names.Enter (keeping_free around) host) (enters : (at : ℕ) (vs : List Value) → Sim (slots_view table) (m at vs) (n at vs)) where
     level_exprs : (depth more : ℕ) → depth ≤ more → SimExprs around units table depth (slots.over host m (slots.level units host m depth)) (names.parts (keeping_free around) host n more)
     unfolding slots.expr names.expr
-    level_exprs depth more deep zero le scope frame u e low h = absurd h
-    level_exprs zero more deep (suc k) le scope frame u e low h = absurd (omega (arith, le))
-    level_exprs (suc depth) zero deep (suc k) le scope frame u e low h = absurd (omega (arith, deep))
-    level_exprs (suc depth) (suc more) deep (suc k) le scope frame u e low h =
+    level_exprs depth more deep zero le scope activation u e low h = absurd h
+    level_exprs zero more deep (suc k) le scope activation u e low h = absurd (omega (arith, le))
+    level_exprs (suc depth) zero deep (suc k) le scope activation u e low h = absurd (omega (arith, deep))
+    level_exprs (suc depth) (suc more) deep (suc k) le scope activation u e low h =
         let shallow : depth ≤ more = omega (arith, deep) in
         let lower : k ≤ depth = omega (arith, le) in
-        case_expr around units table depth (slots.over host m (slots.level units host m depth)) (names.outside_with (keeping_free around) host n) (names.parts (keeping_free around) host n more) (host_calls table host m n enters) (level_exprs depth more shallow) scope frame low k lower (code.out-Expr u) (expr_kind_of e) h
+        case_expr around units table depth (slots.over host m (slots.level units host m depth)) (names.outside_with (keeping_free around) host n) (names.parts (keeping_free around) host n more) (host_calls table host m n enters) (level_exprs depth more shallow) scope activation low k lower (code.out-Expr u) (expr_kind_of e) h
 
     level_stmts : (depth more : ℕ) → depth ≤ more → SimStmts around units table depth (slots.over host m (slots.level units host m depth)) (names.parts (keeping_free around) host n more)
     unfolding slots.stmt names.stmt
-    level_stmts depth more deep zero le scope frame u t low h = absurd h
-    level_stmts zero more deep (suc k) le scope frame u t low h = absurd (omega (arith, le))
-    level_stmts (suc depth) zero deep (suc k) le scope frame u t low h = absurd (omega (arith, deep))
-    level_stmts (suc depth) (suc more) deep (suc k) le scope frame u t low h =
+    level_stmts depth more deep zero le scope activation u t low h = absurd h
+    level_stmts zero more deep (suc k) le scope activation u t low h = absurd (omega (arith, le))
+    level_stmts (suc depth) zero deep (suc k) le scope activation u t low h = absurd (omega (arith, deep))
+    level_stmts (suc depth) (suc more) deep (suc k) le scope activation u t low h =
         let shallow : depth ≤ more = omega (arith, deep) in
         let lower : k ≤ depth = omega (arith, le) in
         sim_bind (slots_view table) (sim_on_state (slots_view table) (keep_spend table 0)) (λ _.
-        case_stmt around units table depth (slots.over host m (slots.level units host m depth)) (names.outside_with (keeping_free around) host n) (names.parts (keeping_free around) host n more) (level_exprs depth more shallow) (level_stmts depth more shallow) scope frame low k lower (code_stmt.out-Stmt u) (kind_of t) h)
+        case_stmt around units table depth (slots.over host m (slots.level units host m depth)) (names.outside_with (keeping_free around) host n) (names.parts (keeping_free around) host n more) (level_exprs depth more shallow) (level_stmts depth more shallow) scope activation low k lower (code_stmt.out-Stmt u) (kind_of t) h)
 
     -- the statements of a body
-    level_body : (scope : Scope) (frame : Frame) (us : List code_stmt.Stmt) (ts : List Stmt) → IsBelow (length frame) scope → AllStand (StmtStandsTo around units table depth_limit scope (length frame)) us ts
-        → Sim (slots_view table) (slots.body units (slots.over host m (slots.level units host m depth_limit)) us frame) (names.body (keeping_free around) (names.outside_with (keeping_free around) host n) (names.parts (keeping_free around) host n depth_limit) ts (environment_of scope frame))
-    level_body scope frame us ts low h =
+    level_body : (scope : Scope) (activation : Activation) (us : List code_stmt.Stmt) (ts : List Stmt) → IsBelow (length activation) scope → AllStand (StmtStandsTo around units table depth_limit scope (length activation)) us ts
+        → Sim (slots_view table) (slots.body units (slots.over host m (slots.level units host m depth_limit)) us activation) (names.body (keeping_free around) (names.outside_with (keeping_free around) host n) (names.parts (keeping_free around) host n depth_limit) ts (environment_of scope activation))
+    level_body scope activation us ts low h =
         let same : depth_limit ≤ depth_limit = omega arith in
-        body_sim around units table depth_limit (slots.over host m (slots.level units host m depth_limit)) (names.outside_with (keeping_free around) host n) (names.parts (keeping_free around) host n depth_limit) (level_exprs depth_limit depth_limit same) (level_stmts depth_limit depth_limit same) depth_limit same scope frame us ts low h
+        body_sim around units table depth_limit (slots.over host m (slots.level units host m depth_limit)) (names.outside_with (keeping_free around) host n) (names.parts (keeping_free around) host n depth_limit) (level_exprs depth_limit depth_limit same) (level_stmts depth_limit depth_limit same) depth_limit same scope activation us ts low h
 
-    called_sim : (c : Code) (e : Numbered) → CodeStands around units table c e → (captured : Frame) → length captured ≡ length e.names → (at : ℕ) (vs : List Value)
+    called_sim : (c : Code) (e : Numbered) → CodeStands around units table c e → (captured : Activation) → length captured ≡ length e.names → (at : ℕ) (vs : List Value)
         → Sim (slots_view table) (slots.function_body units (slots.over host m (slots.level units host m depth_limit)) (Some c) captured at vs) (names.function_body (keeping_free around) (names.outside_with (keeping_free around) host n) (names.parts (keeping_free around) host n depth_limit) (closure_of e captured) at vs)
     unfolding names.function_body
     called_sim c e stands captured same at vs =
@@ -206,7 +206,7 @@ module _ {H : Type 0} (around : Surroundings) (units : List Code) (table : List 
         level_body m n (enter_sim call_limit) (client_scope items) inner u.body.statements items low
         (subst (λ (k : ℕ). AllStand (StmtStandsTo around units table depth_limit (client_scope items) k) u.body.statements items) long code.statements))
 
-    -- the file gives the environment of its top, which its frame gives to the entry
+    -- the file gives the environment of its top, which its activation gives to the entry
     pub file_agrees : (u : Unit') (items : List Stmt) → FileStands around units table u items → Sim (slots_view table) (file_on_slots units host u items) (names.file (keeping_free around) host items)
     unfolding slots.parts names.file
     file_agrees u items code =
@@ -215,7 +215,7 @@ module _ {H : Type 0} (around : Surroundings) (units : List Code) (table : List 
         let scope = file_scope items in
         let entry = body_entry 0 None [] items in
         file_then around units table u items code
-        (λ frame s. and_then (slots.body units (slots.over host m (slots.level units host m depth_limit)) u.body.statements frame s) (λ _ s. gives (environment_of entry frame) s))
+        (λ activation s. and_then (slots.body units (slots.over host m (slots.level units host m depth_limit)) u.body.statements activation s) (λ _ s. gives (environment_of entry activation) s))
         (λ env s. and_then (names.body (keeping_free around) (names.outside_with (keeping_free around) host n) (names.parts (keeping_free around) host n depth_limit) items env s) (λ _ s. gives env s)) (λ inner long low.
         sim_bind (slots_view table) (level_body m n (enter_sim call_limit) scope inner u.body.statements items low
         (subst (λ (k : ℕ). AllStand (StmtStandsTo around units table depth_limit scope k) u.body.statements items) long code.body.statements)) (λ _.

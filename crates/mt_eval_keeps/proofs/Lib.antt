@@ -2,7 +2,7 @@ pub mod Between
 pub mod Building
 pub mod Changes
 pub mod Forms
-pub mod Frames
+pub mod Activations
 pub mod Levels
 pub mod Operations
 pub mod Outside

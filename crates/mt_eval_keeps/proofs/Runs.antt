@@ -143,8 +143,8 @@ module _ {H : Type 0} (owns : Owning H) (most : ℕ) where
   runs_post {first = first} {c = c} {m = m} {post = post} {post' = post'} k h = record { run = λ x s g good. weaker_at s x x (c + x) (c + x) post post' (m s) (omega arith) (omega arith) (λ a t f q. h a t (further first s t g f) q) (k.run x s g good) }
 
   -- what is spared stays so
-  pub runs_framed : {A : Type 0} {first : State × H} {m : Eval H A} {post : Claim A} (c : ℕ) → Runs first 0 0 m post → Runs first c c m post
-  runs_framed {m = m} {post = post} c k = record { run = λ x s g good. weaker_at s (c + x) x (0 + (c + x)) (c + x) post post (m s) (omega arith) (omega arith) (λ a t f h. h) (k.run (c + x) s g (subst (λ n. Good owns most n s) (omega arith) good)) }
+  pub runs_spared : {A : Type 0} {first : State × H} {m : Eval H A} {post : Claim A} (c : ℕ) → Runs first 0 0 m post → Runs first c c m post
+  runs_spared {m = m} {post = post} c k = record { run = λ x s g good. weaker_at s (c + x) x (0 + (c + x)) (c + x) post post (m s) (omega arith) (omega arith) (λ a t f h. h) (k.run (c + x) s g (subst (λ n. Good owns most n s) (omega arith) good)) }
 
   pub runs_leave : {A : Type 0} {first : State × H} {c d : ℕ} {post : Claim A} (e : Exit) → ((t : State × H) → Grew owns first t → FitsExit e t) → Runs first c d (λ s. leaves e s) post
   runs_leave {c = c} e h = record { run = λ x s g good. record { good = good_less (s.0.budget + (c + x)) (s.0.budget + x) s (omega arith) good; grew = same s; budget = omega arith; exit = h s g } }

@@ -1,9 +1,9 @@
--- The forms of statements, the variables of a frame, and new functions.
+-- The forms of statements, the variables of an activation, and new functions.
 use Rattle.std.proofs.Common.{ℕ, zero, suc, ◌+◌, nat_lt, List, [], ◌∷◌, Option, None, Some, Bool, true, false, arith}
 use Rattle.std.specs.Prelude.{All, if◌then◌else◌}
 use Rattle.std.proofs.lemmas.List.Elements.{All-head, All-tail, All-weaker}
 use Rattle.mt_eval_keeps.specs.Growth.{Owning, Fits, Good, Grew}
-use Rattle.mt_eval_keeps.proofs.Runs.{same, further, fits_kept, Claim, After, left_with, Runs, runs_bind, runs_pure, runs_less, runs_leave, runs_framed, runs_caught, Value'}
+use Rattle.mt_eval_keeps.proofs.Runs.{same, further, fits_kept, Claim, After, left_with, Runs, runs_bind, runs_pure, runs_less, runs_leave, runs_spared, runs_caught, Value'}
 use Rattle.mt_eval_keeps.proofs.Steps.{Any, Pays, Holds, holds_later}
 use Rattle.mt_eval_meaning.specs.Runs.{leaves}
 use Rattle.mt_eval_meaning.specs.State.{Eval}
@@ -139,6 +139,6 @@ module _ {H : Type 0} (owns : Owning H) (most : ℕ) where
   unfolding statements.attempt
   attempt_holds {first = first} k l = record {
     runs = λ c t g.
-        runs_framed owns most c
+        runs_spared owns most c
         (runs_caught owns most (k.runs 0 t g) (λ v u f h. (l v u (further owns most first t u g f) h).runs 0 u (same owns most u)));
   }

@@ -12,7 +12,7 @@ use Rattle.mt_eval_meaning.specs.State.{Eval, on_state}
 use Rattle.mt_eval_meaning.specs.declared.exit.Exit.{Exit}
 use Rattle.mt_eval_meaning.specs.declared.exit.Exit.TheVariants as exit
 use Rattle.mt_eval_meaning.specs.declared.state.State.{State}
-use Rattle.mt_eval_meaning.specs.Frames.{enter_unit}
+use Rattle.mt_eval_meaning.specs.Activations.{enter_unit}
 use Rattle.mt_eval_meaning.specs.Slots as slots
 use Rattle.mt_eval_meaning.specs.declared.function.Function.{Function as Code}
 use Rattle.mt_eval_meaning.specs.declared.function.Unit.{Unit as Unit'}
@@ -21,12 +21,12 @@ use Rattle.mt_syntax.specs.declared.tree.Stmt.{Stmt}
 use Rattle.mt_value.specs.declared.value.Value.{Value}
 use Rattle.mt_tree.specs.Limits.{call_limit, depth_limit}
 
--- the file on slots, with the environment that its frame gives to the names of its top
+-- the file on slots, with the environment that its activation gives to the names of its top
 abbrev pub file_on_slots : {H : Type 0} → List Code → Meaning H → Unit' → List Stmt → Eval H Environment
 file_on_slots units host u items = do
-  frame ← on_state (enter_unit units u)
-  slots.body units (slots.parts units host call_limit depth_limit) u.body.statements frame
-  pure (environment_of (body_entry 0 None [] items) frame)
+  activation ← on_state (enter_unit units u)
+  slots.body units (slots.parts units host call_limit depth_limit) u.body.statements activation
+  pure (environment_of (body_entry 0 None [] items) activation)
 
 -- ---- runs that end alike, in states of which one stands for the other
 

@@ -36,7 +36,7 @@ use Rattle.mt_syntax.specs.declared.tree.Prop.{Prop, out-Prop}
 use Rattle.mt_syntax.specs.declared.tree.Stmt as stmt
 use Rattle.mt_tree.specs.Limits.{depth_limit}
 
--- how parts of a node stand for parts of another; of statements also in frames of which size
+-- how parts of a node stand for parts of another; of statements also in activations of which size
 abbrev pub ExprsStand : Type 1
 ExprsStand = Scope → slots_expr.Expr → expr.Expr → Type 0
 
@@ -134,7 +134,7 @@ module _ (around : Surroundings) (units : List Function) (table : List Numbered)
     StartStands scope (start.Expr u) (ForStart-F.ForStart::Expr e) = below scope u e
     StartStands scope _ _ = ⊥
 
-    -- the slots of a block stand behind the frame's
+    -- the slots of a block stand behind the activation's
     abbrev pub block_scope : Scope → ℕ → List stmt.Stmt → Scope
     block_scope scope size ts = with_lexicals size (lexicals ts) [] ++ scope
 
@@ -172,7 +172,7 @@ module _ (around : Surroundings) (units : List Function) (table : List Numbered)
   abbrev pub HoistedStands : Scope → Hoisted → List ℕ × function.Function → Type 0
   HoistedStands scope h f = NameStands scope h.name f.0 × FunctionStands scope h.function None f.1
 
-  -- a body whose entry stands behind a frame of that size, over what is captured
+  -- a body whose entry stands behind an activation of that size, over what is captured
   pub record BodyStands (size : ℕ) (own : Option (List ℕ)) (parameters : List (List ℕ)) (captured : Scope) (b : Body) (ts : List stmt.Stmt) : Type 0 where
     pub variables : length (parameter_entry size own parameters ts) + b.variables ≡ length (variable_entry size own parameters ts)
     pub undeclared : length (variable_entry size own parameters ts) + b.undeclared ≡ length (body_entry size own parameters ts)

@@ -16,5 +16,5 @@ pub mod Names
 pub mod Hoisting
 pub mod Entering
 pub mod Evaluation
-pub mod Frames
+pub mod Activations
 pub mod Slots

@@ -1,4 +1,4 @@
--- The scope of code: the slot of each name, which a frame gives an address.
+-- The scope of code: the slot of each name, which an activation gives an address.
 use Rattle.std.specs.Prelude.{ℕ, ◌+◌, ◌<◌, Bool, true, false, if◌then◌else◌, List, [], ◌∷◌, ◌++◌, length, map, Option, None, Some, is_some, slice_index_or}
 use Rattle.std.specs.List.{list_any}
 use Rattle.mt_eval_meaning.specs.Entering.{function_names}
@@ -6,7 +6,7 @@ use Rattle.mt_eval_meaning.specs.Hoisting.{Lexical, lexicals, variables}
 use Rattle.mt_eval_meaning.specs.Names.{Environment, Surroundings, referent_outside}
 use Rattle.mt_eval_meaning.specs.declared.reference.Referent.{Referent}
 use Rattle.mt_eval_meaning.specs.declared.reference.Referent.TheVariants as refers
-use Rattle.mt_eval_meaning.specs.Frames.{Frame}
+use Rattle.mt_eval_meaning.specs.Activations.{Activation}
 use Rattle.mt_eval_meaning.specs.declared.name.Binding.{Binding}
 use Rattle.mt_eval_meaning.specs.declared.name.Binding.TheVariants as binding
 use Rattle.mt_syntax.specs.declared.tree.Stmt.{Stmt}
@@ -25,11 +25,11 @@ abbrev pub find_slot : List ℕ → Scope → Option Slot
 find_slot name [] = None
 find_slot name (s ∷ ss) = if is_same name s.name then Some s else find_slot name ss
 
--- the environment that a frame gives a scope
-abbrev pub environment_of : Scope → Frame → Environment
-environment_of scope frame = map (λ s. record { name = s.name; address = slice_index_or frame s.slot 0; constant = s.constant }) scope
+-- the environment that an activation gives a scope
+abbrev pub environment_of : Scope → Activation → Environment
+environment_of scope activation = map (λ s. record { name = s.name; address = slice_index_or activation s.slot 0; constant = s.constant }) scope
 
--- each slot is one of a frame of that size
+-- each slot is one of an activation of that size
 abbrev pub IsBelow : ℕ → Scope → Type 0
 IsBelow size [] = Unit {0}
 IsBelow size (s ∷ ss) = (s.slot < size) × IsBelow size ss
@@ -49,7 +49,7 @@ slot_or_outer None outer = outer
 abbrev pub binding_of : Surroundings → Scope → List ℕ → Binding
 binding_of around scope name = slot_or_outer (find_slot name scope) (outer_binding (referent_outside around name))
 
--- ---- the slots of an entry, behind a frame of some size
+-- ---- the slots of an entry, behind an activation of some size
 
 abbrev pub with_name : ℕ → List ℕ → Bool → Scope → Scope
 with_name size name constant entry = record { name = name; slot = size + length entry; constant = constant } ∷ entry

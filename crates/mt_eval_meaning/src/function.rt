@@ -24,11 +24,11 @@ pub struct Body {
     pub statements: Row<Stmt>,
 }
 
-/// The code of a function. Its frame begins with the captured addresses; behind them stand its own name, where it has one inside,
+/// The code of a function. Its activation begins with the captured addresses; behind them stand its own name, where it has one inside,
 /// the parameters, and the slots of the body.
 #[derive(Drop)]
 pub struct Function {
-    /// The slots that it captures, of the frame in which it is made.
+    /// The slots that it captures, of the activation in which it is made.
     pub captures: Row<usize>,
     /// Whether it has its own name inside.
     pub own: bool,
@@ -38,7 +38,7 @@ pub struct Function {
     pub body: Body,
 }
 
-/// The code of a tier: the top of the file, or a tilde with values in the place of its dollars. Its frame begins empty.
+/// The code of a tier: the top of the file, or a tilde with values in the place of its dollars. Its activation begins empty.
 #[derive(Drop)]
 pub struct Unit {
     /// The global variables that the code declares by `var`, in text order.

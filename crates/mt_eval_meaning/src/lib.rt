@@ -11,7 +11,7 @@
 //! On slots, a list of the addresses of the variables that stand around, the newest last, takes the place of names. A name that is bound in
 //! the code names a slot, and a function lists the slots that it captures. Else the tree is that of the syntax, without places, and with
 //! functions by their numbers. `specs/Slots.antt` is this definition: each case is a form of the first part, so the two differ in how
-//! variables are found and made, and in nothing else (`specs/Frames.antt`). `specs/Code.antt` says which resolved code stands for which
+//! variables are found and made, and in nothing else (`specs/Activations.antt`). `specs/Code.antt` says which resolved code stands for which
 //! syntax, and `Agreement`, `States` and `Stores` what it means that both agree.
 //!
 //! [`Host`] is the trait by which one evaluator serves both tiers. Its meaning (`specs/Host.antt`) is a function of the store without what

@@ -6,7 +6,7 @@ use mt_value::Native;
 pub enum Binding {
     /// A variable.
     Slot {
-        /// The place of its address in the frame, from 0.
+        /// The place of its address in the activation, from 0.
         slot: usize,
         /// Whether it is a constant.
         constant: bool,

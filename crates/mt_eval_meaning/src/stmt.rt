@@ -43,9 +43,9 @@ pub enum Stmt {
     Continue,
     /// `throw a;`
     Throw(Expr),
-    /// `try { .. } catch (x) { .. }`; what was thrown is in a new slot behind the frame's.
+    /// `try { .. } catch (x) { .. }`; what was thrown is in a new slot behind the activation's.
     Try(Boxed<Stmt>, Boxed<Stmt>),
-    /// `{ .. }`, with the number of its `let` and `const` names, whose slots stand behind the frame's.
+    /// `{ .. }`, with the number of its `let` and `const` names, whose slots stand behind the activation's.
     Block(usize, Row<Stmt>),
     /// `;`, and a declaration of a function or a service, which are made at the entry of what holds them.
     Empty,

@@ -2,9 +2,9 @@ ghost use Rattle.std.specs.Prelude.{◌≡◌, IfOk, map};
 ghost use Rattle.mt_eval_meaning.specs.Entering as entering;
 ghost use Rattle.mt_eval_meaning.specs.Runs.{Evals, each};
 ghost use Rattle.mt_eval_meaning.specs.References as references;
-ghost use Rattle.mt_eval_meaning.specs.Frames as spec;
+ghost use Rattle.mt_eval_meaning.specs.Activations as spec;
 
-use crate::frame::{grown, pushed};
+use crate::activation::{grown, pushed};
 use crate::hoisting::define_all;
 use crate::{add_cell, declare_global};
 use mt_eval_meaning::{Body, Exit, Function, State, Unit};
@@ -30,62 +30,62 @@ fn rest(arguments: &[Value]) -> &[Value]
     }
 }
 
-/// A frame with a variable for each parameter.
+/// An activation with a variable for each parameter.
 #[tactic(auto, using(crate::proofs::Growth::parameters_step, crate::proofs::Growth::parameters_left, crate::proofs::Growth::parameters_stop))]
 fn with_parameters(
     state: &mut State,
-    mut frame: Buffer<Address>,
+    mut activation: Buffer<Address>,
     count: usize,
     mut arguments: &[Value],
 ) -> Result<Buffer<Address>, Exit>
-    ensures { Evals (spec.with_parameters count arguments.entry.now frame state.old) result state.new }
+    ensures { Evals (spec.with_parameters count arguments.entry.now activation state.old) result state.new }
 {
     let mut left = count;
     while left > 0 {
         let at = add_cell(state, Cell::Variable(Some(first(arguments)?)))?;
-        frame.push(at)?;
+        activation.push(at)?;
         arguments = rest(arguments);
         left -= 1;
     }
-    Ok(frame)
+    Ok(activation)
 }
 
 fn with_own(
     state: &mut State,
-    frame: Buffer<Address>,
+    activation: Buffer<Address>,
     own: bool,
     at: Address,
 ) -> Result<Buffer<Address>, Exit>
-    ensures { Evals (spec.with_own own at frame state.old) result state.new }
+    ensures { Evals (spec.with_own own at activation state.old) result state.new }
 {
     if own {
-        let named = pushed(state, frame, Value::Fun(at))?;
+        let named = pushed(state, activation, Value::Fun(at))?;
         return Ok(named);
     }
-    Ok(frame)
+    Ok(activation)
 }
 
-#[tactic(auto, unfolding(mt_eval_meaning::specs::Frames::enter_body))]
+#[tactic(auto, unfolding(mt_eval_meaning::specs::Activations::enter_body))]
 fn enter_body(
     alloc: Global,
     functions: &[Function],
     state: &mut State,
     body: &Body,
-    frame: Buffer<Address>,
+    activation: Buffer<Address>,
 ) -> Result<Buffer<Address>, Exit>
-    ensures { Evals (spec.enter_body functions.now body.now frame state.old) result state.new }
+    ensures { Evals (spec.enter_body functions.now body.now activation state.old) result state.new }
 {
-    let declared = grown(state, frame, body.variables, true)?;
+    let declared = grown(state, activation, body.variables, true)?;
     let inner = grown(state, declared, body.undeclared, false)?;
     define_all(alloc, functions, state, inner.items(), body.hoisted.items())?;
     Ok(inner)
 }
 
-/// Enters the function in the cell at `at`: the frame that its body has, over the captured addresses.
+/// Enters the function in the cell at `at`: the activation that its body has, over the captured addresses.
 ///
 /// # Errors
 /// `NoMemory`.
-#[tactic(auto, unfolding(mt_eval_meaning::specs::Frames::enter_function))]
+#[tactic(auto, unfolding(mt_eval_meaning::specs::Activations::enter_function))]
 pub fn enter_function(
     alloc: Global,
     functions: &[Function],
@@ -112,11 +112,11 @@ fn declare_globals(state: &mut State, mut names: &[Text]) -> Result<(), Exit>
     Ok(())
 }
 
-/// Enters the code of a tier: the frame that its statements have.
+/// Enters the code of a tier: the activation that its statements have.
 ///
 /// # Errors
 /// `NoMemory`.
-#[tactic(auto, unfolding(mt_eval_meaning::specs::Frames::enter_unit))]
+#[tactic(auto, unfolding(mt_eval_meaning::specs::Activations::enter_unit))]
 pub fn enter_unit(
     alloc: Global,
     functions: &[Function],

@@ -1,9 +1,9 @@
 ghost use Rattle.std.specs.Prelude.{◌≡◌, ◌++◌, IfOk, OnOk};
 ghost use Rattle.std.specs.Option.{option_copied};
 ghost use Rattle.mt_eval_meaning.specs.Runs.{Evals};
-ghost use Rattle.mt_eval_meaning.specs.Frames as spec;
+ghost use Rattle.mt_eval_meaning.specs.Activations as spec;
 
-use crate::frame::referent;
+use crate::activation::referent;
 use crate::{add_cell, declare};
 use mt_eval_meaning::{Exit, Function, Hoisted, State};
 use mt_tree::{NoMemory, Row};
@@ -24,12 +24,16 @@ fn push(list: &mut Vec<Address>, at: Option<&Address>) -> Result<(), NoMemory>
 
 /// The addresses in some slots.
 #[tactic(auto, using(crate::proofs::Growth::behind, crate::proofs::Growth::none_behind))]
-fn captured(alloc: Global, frame: &[Address], mut slots: &[usize]) -> Result<Row<Address>, NoMemory>
-    ensures { IfOk result (λ made. made ≡ spec.captured frame.now slots.entry.now) }
+fn captured(
+    alloc: Global,
+    activation: &[Address],
+    mut slots: &[usize],
+) -> Result<Row<Address>, NoMemory>
+    ensures { IfOk result (λ made. made ≡ spec.captured activation.now slots.entry.now) }
 {
     let mut made = Vec::new(alloc);
     while let [slot, rest @ ..] = slots {
-        push(&mut made, frame.get(*slot))?;
+        push(&mut made, activation.get(*slot))?;
         slots = rest;
     }
     Row::from_vec(alloc, made)
@@ -44,36 +48,36 @@ fn captures_of(function: Option<&Function>) -> &[usize]
     }
 }
 
-/// A new function, by the number of its code, which captures variables of the frame. The answer is the address of its cell.
+/// A new function, by the number of its code, which captures variables of the activation. The answer is the address of its cell.
 ///
 /// # Errors
 /// `NoMemory`.
-#[tactic(auto, unfolding(mt_eval_meaning::specs::Frames::capture))]
+#[tactic(auto, unfolding(mt_eval_meaning::specs::Activations::capture))]
 pub fn capture(
     alloc: Global,
     functions: &[Function],
     state: &mut State,
     function: usize,
-    frame: &[Address],
+    activation: &[Address],
 ) -> Result<Address, Exit>
-    ensures { Evals (spec.capture functions.now function frame.now state.old) result state.new }
+    ensures { Evals (spec.capture functions.now function activation.now state.old) result state.new }
 {
-    let captured = captured(alloc, frame, captures_of(functions.get(function)))?;
+    let captured = captured(alloc, activation, captures_of(functions.get(function)))?;
     add_cell(state, Cell::Fun(FunCell { function, captured }))
 }
 
-#[tactic(auto, unfolding(mt_eval_meaning::specs::Frames::define))]
+#[tactic(auto, unfolding(mt_eval_meaning::specs::Activations::define))]
 fn define(
     alloc: Global,
     functions: &[Function],
     state: &mut State,
-    frame: &[Address],
+    activation: &[Address],
     hoisted: &Hoisted,
 ) -> Result<(), Exit>
-    ensures { Evals (spec.define functions.now frame.now hoisted.now state.old) result state.new }
+    ensures { Evals (spec.define functions.now activation.now hoisted.now state.old) result state.new }
 {
-    let at = capture(alloc, functions, state, hoisted.function, frame)?;
-    let named = referent(frame, hoisted.name.binding);
+    let at = capture(alloc, functions, state, hoisted.function, activation)?;
+    let named = referent(activation, hoisted.name.binding);
     declare(state, &hoisted.name.text, named, Value::Fun(at))
 }
 
@@ -85,13 +89,13 @@ pub fn define_all(
     alloc: Global,
     functions: &[Function],
     state: &mut State,
-    frame: &[Address],
+    activation: &[Address],
     mut hoisted: &[Hoisted],
 ) -> Result<(), Exit>
-    ensures { Evals (spec.define_all functions.now frame.now hoisted.entry.now state.old) result state.new }
+    ensures { Evals (spec.define_all functions.now activation.now hoisted.entry.now state.old) result state.new }
 {
     while let [first, rest @ ..] = hoisted {
-        define(alloc, functions, state, frame, first)?;
+        define(alloc, functions, state, activation, first)?;
         hoisted = rest;
     }
     Ok(())

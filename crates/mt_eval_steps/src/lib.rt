@@ -7,12 +7,12 @@
 //! gone through: the evaluator and the marshalling of values stand on this crate.
 #![tactic(auto)]
 
+mod activation;
 mod budget;
 mod cells;
 mod counts;
 mod data_cells;
 mod entry;
-mod frame;
 mod hoisting;
 mod host_calls;
 mod literals;
@@ -22,12 +22,12 @@ mod properties;
 mod throwing;
 mod variables;
 
+pub use activation::{copied, grown, pushed, referent};
 pub use budget::spend;
 pub use cells::{add_cell, put_cell};
 pub use counts::nodes;
 pub use data_cells::build;
 pub use entry::{enter_function, enter_unit};
-pub use frame::{copied, grown, pushed, referent};
 pub use hoisting::{capture, define_all};
 pub use host_calls::{
     call_native, call_service, get_hosted, hosted_method, make_element, set_hosted, stage_tilde,

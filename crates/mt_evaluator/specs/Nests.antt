@@ -27,11 +27,16 @@ Gives H X A = Global → Bor (List Function) → ℕ → ℕ → Bor (List ℕ) 
 -- both functions may be called on each level up to this one, and do what the definition says
 pub record Nests {H : Type 0} (host : Meaning H) (level : ℕ)
     (pre : Given H Expr) (post : Gives H Expr Value) (pre_stmt : Given H Stmt) (post_stmt : Gives H Stmt Completion) : Type 0 where
-  pub callable : (alloc : Global) (functions : Bor (List Function)) (calls depth : ℕ) (frame : Bor (List ℕ)) (old : MutBor State) (host_old : MutBor H) (e : Bor Expr) → rank calls depth ≤ level
-      → pre alloc functions calls depth frame old host_old e
-  pub evals : (alloc : Global) (functions : Bor (List Function)) (calls depth : ℕ) (frame : Bor (List ℕ)) (old new : MutBor State) (host_old host_new : MutBor H) (e : Bor Expr) (r : Result Value Exit)
-      → post alloc functions calls depth frame old host_old e r new host_new → Evals ((parts functions.now host calls depth).expr e.now frame.now (old.now, host_old.now)) r (new.now, host_new.now)
-  pub callable_stmt : (alloc : Global) (functions : Bor (List Function)) (calls depth : ℕ) (frame : Bor (List ℕ)) (old : MutBor State) (host_old : MutBor H) (t : Bor Stmt) → rank calls depth ≤ level
-      → pre_stmt alloc functions calls depth frame old host_old t
-  pub evals_stmt : (alloc : Global) (functions : Bor (List Function)) (calls depth : ℕ) (frame : Bor (List ℕ)) (old new : MutBor State) (host_old host_new : MutBor H) (t : Bor Stmt) (r : Result Completion Exit)
-      → post_stmt alloc functions calls depth frame old host_old t r new host_new → Evals ((parts functions.now host calls depth).stmt t.now frame.now (old.now, host_old.now)) r (new.now, host_new.now)
+  pub callable : (alloc : Global) (functions : Bor (List Function)) (calls depth : ℕ) (activation : Bor (List ℕ)) (old : MutBor State) (host_old : MutBor H) (e : Bor Expr) → rank calls depth ≤ level
+      → pre alloc functions calls depth activation old host_old e
+  pub evals : (alloc : Global) (functions : Bor (List Function)) (calls depth : ℕ) (activation : Bor (List ℕ)) (old new : MutBor State) (host_old host_new : MutBor H) (e : Bor Expr)
+      → (r : Result Value Exit)
+      → post alloc functions calls depth activation old host_old e r new host_new
+      → Evals ((parts functions.now host calls depth).expr e.now activation.now (old.now, host_old.now)) r (new.now, host_new.now)
+  pub callable_stmt : (alloc : Global) (functions : Bor (List Function)) (calls depth : ℕ) (activation : Bor (List ℕ)) (old : MutBor State) (host_old : MutBor H) (t : Bor Stmt)
+      → rank calls depth ≤ level
+      → pre_stmt alloc functions calls depth activation old host_old t
+  pub evals_stmt : (alloc : Global) (functions : Bor (List Function)) (calls depth : ℕ) (activation : Bor (List ℕ)) (old new : MutBor State) (host_old host_new : MutBor H) (t : Bor Stmt)
+      → (r : Result Completion Exit)
+      → post_stmt alloc functions calls depth activation old host_old t r new host_new
+      → Evals ((parts functions.now host calls depth).stmt t.now activation.now (old.now, host_old.now)) r (new.now, host_new.now)

@@ -22,9 +22,9 @@ pub struct Evaluator<'a, H, F, G> {
     pub calls: usize,
     /// How deep the parts of a node may be.
     pub depth: usize,
-    /// Evaluates an expression in a frame.
+    /// Evaluates an expression in an activation.
     pub expr: F,
-    /// Evaluates a statement in a frame.
+    /// Evaluates a statement in an activation.
     pub stmt: G,
     /// The host's type.
     pub host: PhantomData<H>,
@@ -60,20 +60,20 @@ impl<
     /// As the code says, and `NoMemory`.
     pub fn expr(
         &self,
-        frame: &[Address],
+        activation: &[Address],
         state: &mut State,
         host: &mut H,
         e: &Expr,
     ) -> Result<Value, Exit>
         requires { Nests H.meaning (rank self.now.calls self.now.depth) (F.pre self.now.expr) (F.post self.now.expr) (G.pre self.now.stmt) (G.post self.now.stmt) }
-        ensures { Evals ((parts self.now.functions.now H.meaning self.now.calls self.now.depth).expr e.now frame.now (state.old, host.old)) result (state.new, host.new) }
+        ensures { Evals ((parts self.now.functions.now H.meaning self.now.calls self.now.depth).expr e.now activation.now (state.old, host.old)) result (state.new, host.new) }
     {
         (self.expr)(
             self.alloc,
             self.functions,
             self.calls,
             self.depth,
-            frame,
+            activation,
             state,
             host,
             e,

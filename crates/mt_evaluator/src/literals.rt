@@ -45,17 +45,17 @@ impl<
     /// As the code says, and `NoMemory`.
     pub fn exprs(
         &self,
-        frame: &[Address],
+        activation: &[Address],
         state: &mut State,
         host: &mut H,
         mut items: &[Expr],
     ) -> Result<Buffer<Value>, Exit>
         requires { Nests H.meaning (rank self.now.calls self.now.depth) (F.pre self.now.expr) (F.post self.now.expr) (G.pre self.now.stmt) (G.post self.now.stmt) }
-        ensures { Evals (all (spec.exprs self.now.functions.now (parts self.now.functions.now H.meaning self.now.calls self.now.depth) items.entry.now frame.now) (state.old, host.old)) result (state.new, host.new) }
+        ensures { Evals (all (spec.exprs self.now.functions.now (parts self.now.functions.now H.meaning self.now.calls self.now.depth) items.entry.now activation.now) (state.old, host.old)) result (state.new, host.new) }
     {
         let mut done = Buffer::new(self.alloc);
         while let [item, rest @ ..] = items {
-            done.push(self.expr(frame, state, host, item)?)?;
+            done.push(self.expr(activation, state, host, item)?)?;
             items = rest;
         }
         Ok(done)
@@ -64,15 +64,15 @@ impl<
     #[tactic(auto, unfolding(mt_eval_meaning::specs::Expressions::entry))]
     fn entry(
         &self,
-        frame: &[Address],
+        activation: &[Address],
         state: &mut State,
         host: &mut H,
         item: &Entry,
     ) -> Result<Property, Exit>
         requires { Nests H.meaning (rank self.now.calls self.now.depth) (F.pre self.now.expr) (F.post self.now.expr) (G.pre self.now.stmt) (G.post self.now.stmt) }
-        ensures { Evals (spec.entry self.now.functions.now (parts self.now.functions.now H.meaning self.now.calls self.now.depth) item.now frame.now (state.old, host.old)) result (state.new, host.new) }
+        ensures { Evals (spec.entry self.now.functions.now (parts self.now.functions.now H.meaning self.now.calls self.now.depth) item.now activation.now (state.old, host.old)) result (state.new, host.new) }
     {
-        let value = self.expr(frame, state, host, &item.value)?;
+        let value = self.expr(activation, state, host, &item.value)?;
         Ok(Property {
             name: item.name.share()?,
             value,
@@ -81,17 +81,17 @@ impl<
 
     fn entries(
         &self,
-        frame: &[Address],
+        activation: &[Address],
         state: &mut State,
         host: &mut H,
         mut items: &[Entry],
     ) -> Result<Buffer<Property>, Exit>
         requires { Nests H.meaning (rank self.now.calls self.now.depth) (F.pre self.now.expr) (F.post self.now.expr) (G.pre self.now.stmt) (G.post self.now.stmt) }
-        ensures { Evals (all (map (λ q. spec.entry self.now.functions.now (parts self.now.functions.now H.meaning self.now.calls self.now.depth) q frame.now) items.entry.now) (state.old, host.old)) result (state.new, host.new) }
+        ensures { Evals (all (map (λ q. spec.entry self.now.functions.now (parts self.now.functions.now H.meaning self.now.calls self.now.depth) q activation.now) items.entry.now) (state.old, host.old)) result (state.new, host.new) }
     {
         let mut done = Buffer::new(self.alloc);
         while let [item, rest @ ..] = items {
-            done.push(self.entry(frame, state, host, item)?)?;
+            done.push(self.entry(activation, state, host, item)?)?;
             items = rest;
         }
         Ok(done)
@@ -100,33 +100,33 @@ impl<
     #[tactic(auto, unfolding(mt_eval_meaning::specs::Slots::piece))]
     fn piece(
         &self,
-        frame: &[Address],
+        activation: &[Address],
         state: &mut State,
         host: &mut H,
         item: &Piece,
     ) -> Result<Value, Exit>
         requires { Nests H.meaning (rank self.now.calls self.now.depth) (F.pre self.now.expr) (F.post self.now.expr) (G.pre self.now.stmt) (G.post self.now.stmt) }
-        ensures { Evals (spec.piece self.now.functions.now (parts self.now.functions.now H.meaning self.now.calls self.now.depth) item.now frame.now (state.old, host.old)) result (state.new, host.new) }
+        ensures { Evals (spec.piece self.now.functions.now (parts self.now.functions.now H.meaning self.now.calls self.now.depth) item.now activation.now (state.old, host.old)) result (state.new, host.new) }
     {
         match item {
             Piece::Text(text) => Ok(Value::Text(text.share()?)),
-            Piece::Expr(e) => self.expr(frame, state, host, e),
+            Piece::Expr(e) => self.expr(activation, state, host, e),
         }
     }
 
     fn pieces(
         &self,
-        frame: &[Address],
+        activation: &[Address],
         state: &mut State,
         host: &mut H,
         mut items: &[Piece],
     ) -> Result<Buffer<Value>, Exit>
         requires { Nests H.meaning (rank self.now.calls self.now.depth) (F.pre self.now.expr) (F.post self.now.expr) (G.pre self.now.stmt) (G.post self.now.stmt) }
-        ensures { Evals (all (map (λ c. spec.piece self.now.functions.now (parts self.now.functions.now H.meaning self.now.calls self.now.depth) c frame.now) items.entry.now) (state.old, host.old)) result (state.new, host.new) }
+        ensures { Evals (all (map (λ c. spec.piece self.now.functions.now (parts self.now.functions.now H.meaning self.now.calls self.now.depth) c activation.now) items.entry.now) (state.old, host.old)) result (state.new, host.new) }
     {
         let mut done = Buffer::new(self.alloc);
         while let [item, rest @ ..] = items {
-            done.push(self.piece(frame, state, host, item)?)?;
+            done.push(self.piece(activation, state, host, item)?)?;
             items = rest;
         }
         Ok(done)
@@ -135,15 +135,15 @@ impl<
     #[tactic(auto, unfolding(mt_eval_meaning::specs::Expressions::attribute))]
     fn attribute(
         &self,
-        frame: &[Address],
+        activation: &[Address],
         state: &mut State,
         host: &mut H,
         item: &Attribute,
     ) -> Result<NamedValue, Exit>
         requires { Nests H.meaning (rank self.now.calls self.now.depth) (F.pre self.now.expr) (F.post self.now.expr) (G.pre self.now.stmt) (G.post self.now.stmt) }
-        ensures { Evals (spec.attribute self.now.functions.now (parts self.now.functions.now H.meaning self.now.calls self.now.depth) item.now frame.now (state.old, host.old)) result (state.new, host.new) }
+        ensures { Evals (spec.attribute self.now.functions.now (parts self.now.functions.now H.meaning self.now.calls self.now.depth) item.now activation.now (state.old, host.old)) result (state.new, host.new) }
     {
-        let value = self.piece(frame, state, host, &item.value)?;
+        let value = self.piece(activation, state, host, &item.value)?;
         Ok(NamedValue {
             name: item.name.share()?,
             value,
@@ -152,17 +152,17 @@ impl<
 
     fn attributes(
         &self,
-        frame: &[Address],
+        activation: &[Address],
         state: &mut State,
         host: &mut H,
         mut items: &[Attribute],
     ) -> Result<Buffer<NamedValue>, Exit>
         requires { Nests H.meaning (rank self.now.calls self.now.depth) (F.pre self.now.expr) (F.post self.now.expr) (G.pre self.now.stmt) (G.post self.now.stmt) }
-        ensures { Evals (all (map (λ a. spec.attribute self.now.functions.now (parts self.now.functions.now H.meaning self.now.calls self.now.depth) a frame.now) items.entry.now) (state.old, host.old)) result (state.new, host.new) }
+        ensures { Evals (all (map (λ a. spec.attribute self.now.functions.now (parts self.now.functions.now H.meaning self.now.calls self.now.depth) a activation.now) items.entry.now) (state.old, host.old)) result (state.new, host.new) }
     {
         let mut done = Buffer::new(self.alloc);
         while let [item, rest @ ..] = items {
-            done.push(self.attribute(frame, state, host, item)?)?;
+            done.push(self.attribute(activation, state, host, item)?)?;
             items = rest;
         }
         Ok(done)
@@ -175,15 +175,15 @@ impl<
     #[tactic(auto, unfolding(mt_eval_meaning::specs::Expressions::array))]
     pub fn array(
         &self,
-        frame: &[Address],
+        activation: &[Address],
         state: &mut State,
         host: &mut H,
         items: &[Expr],
     ) -> Result<Value, Exit>
         requires { Nests H.meaning (rank self.now.calls self.now.depth) (F.pre self.now.expr) (F.post self.now.expr) (G.pre self.now.stmt) (G.post self.now.stmt) }
-        ensures { Evals (forms.array (spec.exprs self.now.functions.now (parts self.now.functions.now H.meaning self.now.calls self.now.depth) items.now frame.now) (state.old, host.old)) result (state.new, host.new) }
+        ensures { Evals (forms.array (spec.exprs self.now.functions.now (parts self.now.functions.now H.meaning self.now.calls self.now.depth) items.now activation.now) (state.old, host.old)) result (state.new, host.new) }
     {
-        let values = self.exprs(frame, state, host, items)?;
+        let values = self.exprs(activation, state, host, items)?;
         spend(state, 0)?;
         let at = add_cell(state, Cell::Arr(values))?;
         Ok(Value::Arr(at))
@@ -196,15 +196,15 @@ impl<
     #[tactic(auto, unfolding(mt_eval_meaning::specs::Expressions::object))]
     pub fn object(
         &self,
-        frame: &[Address],
+        activation: &[Address],
         state: &mut State,
         host: &mut H,
         items: &[Entry],
     ) -> Result<Value, Exit>
         requires { Nests H.meaning (rank self.now.calls self.now.depth) (F.pre self.now.expr) (F.post self.now.expr) (G.pre self.now.stmt) (G.post self.now.stmt) }
-        ensures { Evals (forms.object (map (λ q. spec.entry self.now.functions.now (parts self.now.functions.now H.meaning self.now.calls self.now.depth) q frame.now) items.now) (state.old, host.old)) result (state.new, host.new) }
+        ensures { Evals (forms.object (map (λ q. spec.entry self.now.functions.now (parts self.now.functions.now H.meaning self.now.calls self.now.depth) q activation.now) items.now) (state.old, host.old)) result (state.new, host.new) }
     {
-        let entries = self.entries(frame, state, host, items)?;
+        let entries = self.entries(activation, state, host, items)?;
         spend(state, 0)?;
         let properties = literal_properties(self.alloc, state, entries.items())?;
         let at = add_cell(state, Cell::Obj(properties))?;
@@ -218,16 +218,16 @@ impl<
     #[tactic(auto, unfolding(mt_eval_meaning::specs::Expressions::tilde))]
     pub fn tilde(
         &self,
-        frame: &[Address],
+        activation: &[Address],
         state: &mut State,
         host: &mut H,
         id: u32,
         dollars: &[Expr],
     ) -> Result<Value, Exit>
         requires { Nests H.meaning (rank self.now.calls self.now.depth) (F.pre self.now.expr) (F.post self.now.expr) (G.pre self.now.stmt) (G.post self.now.stmt) }
-        ensures { Evals (forms.tilde (parts self.now.functions.now H.meaning self.now.calls self.now.depth).outside id (spec.exprs self.now.functions.now (parts self.now.functions.now H.meaning self.now.calls self.now.depth) dollars.now frame.now) (state.old, host.old)) result (state.new, host.new) }
+        ensures { Evals (forms.tilde (parts self.now.functions.now H.meaning self.now.calls self.now.depth).outside id (spec.exprs self.now.functions.now (parts self.now.functions.now H.meaning self.now.calls self.now.depth) dollars.now activation.now) (state.old, host.old)) result (state.new, host.new) }
     {
-        let values = self.exprs(frame, state, host, dollars)?;
+        let values = self.exprs(activation, state, host, dollars)?;
         spend(state, 0)?;
         self.staged(state, host, id, values.items())
     }
@@ -239,7 +239,7 @@ impl<
     #[tactic(auto, unfolding(mt_eval_meaning::specs::Expressions::element))]
     pub fn element(
         &self,
-        frame: &[Address],
+        activation: &[Address],
         state: &mut State,
         host: &mut H,
         tag: &Text,
@@ -247,10 +247,10 @@ impl<
         children: &[Piece],
     ) -> Result<Value, Exit>
         requires { Nests H.meaning (rank self.now.calls self.now.depth) (F.pre self.now.expr) (F.post self.now.expr) (G.pre self.now.stmt) (G.post self.now.stmt) }
-        ensures { Evals (forms.element (parts self.now.functions.now H.meaning self.now.calls self.now.depth).outside tag.now (map (λ a. spec.attribute self.now.functions.now (parts self.now.functions.now H.meaning self.now.calls self.now.depth) a frame.now) attributes.now) (map (λ c. spec.piece self.now.functions.now (parts self.now.functions.now H.meaning self.now.calls self.now.depth) c frame.now) children.now) (state.old, host.old)) result (state.new, host.new) }
+        ensures { Evals (forms.element (parts self.now.functions.now H.meaning self.now.calls self.now.depth).outside tag.now (map (λ a. spec.attribute self.now.functions.now (parts self.now.functions.now H.meaning self.now.calls self.now.depth) a activation.now) attributes.now) (map (λ c. spec.piece self.now.functions.now (parts self.now.functions.now H.meaning self.now.calls self.now.depth) c activation.now) children.now) (state.old, host.old)) result (state.new, host.new) }
     {
-        let named = self.attributes(frame, state, host, attributes)?;
-        let values = self.pieces(frame, state, host, children)?;
+        let named = self.attributes(activation, state, host, attributes)?;
+        let values = self.pieces(activation, state, host, children)?;
         spend(state, 0)?;
         self.element_of(state, host, tag, named.items(), values.items())
     }

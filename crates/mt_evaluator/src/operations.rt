@@ -4,7 +4,7 @@ ghost use Rattle.mt_eval_meaning.specs.References as references;
 ghost use Rattle.mt_eval_meaning.specs.Runs.{Evals};
 ghost use Rattle.mt_eval_meaning.specs.State.{on_state};
 ghost use Rattle.mt_evaluator.specs.Nests.{Nests, rank};
-ghost use Rattle.mt_eval_meaning.specs.Frames as frames;
+ghost use Rattle.mt_eval_meaning.specs.Activations as activations;
 ghost use Rattle.mt_eval_meaning.specs.Slots as spec;
 ghost use Rattle.mt_eval_meaning.specs.Slots.{parts};
 
@@ -69,33 +69,33 @@ impl<
     #[tactic(auto, unfolding(mt_eval_meaning::specs::Expressions::looked_up))]
     pub fn name(
         &self,
-        frame: &[Address],
+        activation: &[Address],
         state: &mut State,
         host: &mut H,
         name: &Name,
     ) -> Result<Value, Exit>
-        ensures { Evals (forms.looked_up (parts self.now.functions.now H.meaning self.now.calls self.now.depth).outside (references.read_name (parts self.now.functions.now H.meaning self.now.calls self.now.depth).outside name.now.text (frames.referent frame.now name.now.binding)) (state.old, host.old)) result (state.new, host.new) }
+        ensures { Evals (forms.looked_up (parts self.now.functions.now H.meaning self.now.calls self.now.depth).outside (references.read_name (parts self.now.functions.now H.meaning self.now.calls self.now.depth).outside name.now.text (activations.referent activation.now name.now.binding)) (state.old, host.old)) result (state.new, host.new) }
     {
         spend(state, 0)?;
-        self.read_name(state, host, &name.text, referent(frame, name.binding))
+        self.read_name(state, host, &name.text, referent(activation, name.binding))
     }
 
-    /// A new function, which captures variables of the frame.
+    /// A new function, which captures variables of the activation.
     ///
     /// # Errors
     /// The stop `Budget`, and `NoMemory`.
     #[tactic(auto, unfolding(mt_eval_meaning::specs::Expressions::function))]
     pub fn function(
         &self,
-        frame: &[Address],
+        activation: &[Address],
         state: &mut State,
         host: &mut H,
         function: usize,
     ) -> Result<Value, Exit>
-        ensures { Evals (forms.function (on_state (frames.capture self.now.functions.now function frame.now)) (state.old, host.old)) result (state.new, host.new) }
+        ensures { Evals (forms.function (on_state (activations.capture self.now.functions.now function activation.now)) (state.old, host.old)) result (state.new, host.new) }
     {
         spend(state, 0)?;
-        let at = capture(self.alloc, self.functions, state, function, frame)?;
+        let at = capture(self.alloc, self.functions, state, function, activation)?;
         Ok(Value::Fun(at))
     }
 
@@ -106,16 +106,16 @@ impl<
     #[tactic(auto, unfolding(mt_eval_meaning::specs::Expressions::unary))]
     pub fn unary(
         &self,
-        frame: &[Address],
+        activation: &[Address],
         state: &mut State,
         host: &mut H,
         op: Unary,
         a: &Expr,
     ) -> Result<Value, Exit>
         requires { Nests H.meaning (rank self.now.calls self.now.depth) (F.pre self.now.expr) (F.post self.now.expr) (G.pre self.now.stmt) (G.post self.now.stmt) }
-        ensures { Evals (forms.unary op ((parts self.now.functions.now H.meaning self.now.calls self.now.depth).expr a.now frame.now) (state.old, host.old)) result (state.new, host.new) }
+        ensures { Evals (forms.unary op ((parts self.now.functions.now H.meaning self.now.calls self.now.depth).expr a.now activation.now) (state.old, host.old)) result (state.new, host.new) }
     {
-        let v = self.expr(frame, state, host, a)?;
+        let v = self.expr(activation, state, host, a)?;
         spend(state, unary_cost(op, &v))?;
         Ok(unary(self.alloc, state, op, &v)?)
     }
@@ -127,7 +127,7 @@ impl<
     #[tactic(auto, unfolding(mt_eval_meaning::specs::Expressions::operation))]
     pub fn operation(
         &self,
-        frame: &[Address],
+        activation: &[Address],
         state: &mut State,
         host: &mut H,
         op: Binary,
@@ -135,10 +135,10 @@ impl<
         b: &Expr,
     ) -> Result<Value, Exit>
         requires { Nests H.meaning (rank self.now.calls self.now.depth) (F.pre self.now.expr) (F.post self.now.expr) (G.pre self.now.stmt) (G.post self.now.stmt) }
-        ensures { Evals (forms.operation op ((parts self.now.functions.now H.meaning self.now.calls self.now.depth).expr a.now frame.now) ((parts self.now.functions.now H.meaning self.now.calls self.now.depth).expr b.now frame.now) (state.old, host.old)) result (state.new, host.new) }
+        ensures { Evals (forms.operation op ((parts self.now.functions.now H.meaning self.now.calls self.now.depth).expr a.now activation.now) ((parts self.now.functions.now H.meaning self.now.calls self.now.depth).expr b.now activation.now) (state.old, host.old)) result (state.new, host.new) }
     {
-        let v = self.expr(frame, state, host, a)?;
-        let w = self.expr(frame, state, host, b)?;
+        let v = self.expr(activation, state, host, a)?;
+        let w = self.expr(activation, state, host, b)?;
         spend(state, binary_cost(op, &v, &w))?;
         Ok(binary(self.alloc, state, op, &v, &w)?)
     }
@@ -150,21 +150,21 @@ impl<
     #[tactic(auto, unfolding(mt_eval_meaning::specs::Expressions::conjunction))]
     pub fn conjunction(
         &self,
-        frame: &[Address],
+        activation: &[Address],
         state: &mut State,
         host: &mut H,
         a: &Expr,
         b: &Expr,
     ) -> Result<Value, Exit>
         requires { Nests H.meaning (rank self.now.calls self.now.depth) (F.pre self.now.expr) (F.post self.now.expr) (G.pre self.now.stmt) (G.post self.now.stmt) }
-        ensures { Evals (forms.conjunction ((parts self.now.functions.now H.meaning self.now.calls self.now.depth).expr a.now frame.now) ((parts self.now.functions.now H.meaning self.now.calls self.now.depth).expr b.now frame.now) (state.old, host.old)) result (state.new, host.new) }
+        ensures { Evals (forms.conjunction ((parts self.now.functions.now H.meaning self.now.calls self.now.depth).expr a.now activation.now) ((parts self.now.functions.now H.meaning self.now.calls self.now.depth).expr b.now activation.now) (state.old, host.old)) result (state.new, host.new) }
     {
-        let v = self.expr(frame, state, host, a)?;
+        let v = self.expr(activation, state, host, a)?;
         if !is_truthy(&v) {
             spend(state, 0)?;
             return Ok(v);
         }
-        let w = self.expr(frame, state, host, b)?;
+        let w = self.expr(activation, state, host, b)?;
         spend(state, 0)?;
         Ok(w)
     }
@@ -176,21 +176,21 @@ impl<
     #[tactic(auto, unfolding(mt_eval_meaning::specs::Expressions::disjunction))]
     pub fn disjunction(
         &self,
-        frame: &[Address],
+        activation: &[Address],
         state: &mut State,
         host: &mut H,
         a: &Expr,
         b: &Expr,
     ) -> Result<Value, Exit>
         requires { Nests H.meaning (rank self.now.calls self.now.depth) (F.pre self.now.expr) (F.post self.now.expr) (G.pre self.now.stmt) (G.post self.now.stmt) }
-        ensures { Evals (forms.disjunction ((parts self.now.functions.now H.meaning self.now.calls self.now.depth).expr a.now frame.now) ((parts self.now.functions.now H.meaning self.now.calls self.now.depth).expr b.now frame.now) (state.old, host.old)) result (state.new, host.new) }
+        ensures { Evals (forms.disjunction ((parts self.now.functions.now H.meaning self.now.calls self.now.depth).expr a.now activation.now) ((parts self.now.functions.now H.meaning self.now.calls self.now.depth).expr b.now activation.now) (state.old, host.old)) result (state.new, host.new) }
     {
-        let v = self.expr(frame, state, host, a)?;
+        let v = self.expr(activation, state, host, a)?;
         if is_truthy(&v) {
             spend(state, 0)?;
             return Ok(v);
         }
-        let w = self.expr(frame, state, host, b)?;
+        let w = self.expr(activation, state, host, b)?;
         spend(state, 0)?;
         Ok(w)
     }
@@ -202,7 +202,7 @@ impl<
     #[tactic(auto, unfolding(mt_eval_meaning::specs::Expressions::conditional))]
     pub fn conditional(
         &self,
-        frame: &[Address],
+        activation: &[Address],
         state: &mut State,
         host: &mut H,
         test: &Expr,
@@ -210,11 +210,11 @@ impl<
         b: &Expr,
     ) -> Result<Value, Exit>
         requires { Nests H.meaning (rank self.now.calls self.now.depth) (F.pre self.now.expr) (F.post self.now.expr) (G.pre self.now.stmt) (G.post self.now.stmt) }
-        ensures { Evals (forms.conditional ((parts self.now.functions.now H.meaning self.now.calls self.now.depth).expr test.now frame.now) ((parts self.now.functions.now H.meaning self.now.calls self.now.depth).expr a.now frame.now) ((parts self.now.functions.now H.meaning self.now.calls self.now.depth).expr b.now frame.now) (state.old, host.old)) result (state.new, host.new) }
+        ensures { Evals (forms.conditional ((parts self.now.functions.now H.meaning self.now.calls self.now.depth).expr test.now activation.now) ((parts self.now.functions.now H.meaning self.now.calls self.now.depth).expr a.now activation.now) ((parts self.now.functions.now H.meaning self.now.calls self.now.depth).expr b.now activation.now) (state.old, host.old)) result (state.new, host.new) }
     {
-        let v = self.expr(frame, state, host, test)?;
+        let v = self.expr(activation, state, host, test)?;
         let chosen = if is_truthy(&v) { a } else { b };
-        let w = self.expr(frame, state, host, chosen)?;
+        let w = self.expr(activation, state, host, chosen)?;
         spend(state, 0)?;
         Ok(w)
     }
@@ -226,17 +226,17 @@ impl<
     #[tactic(auto, unfolding(mt_eval_meaning::specs::Expressions::index))]
     pub fn index(
         &self,
-        frame: &[Address],
+        activation: &[Address],
         state: &mut State,
         host: &mut H,
         a: &Expr,
         k: &Expr,
     ) -> Result<Value, Exit>
         requires { Nests H.meaning (rank self.now.calls self.now.depth) (F.pre self.now.expr) (F.post self.now.expr) (G.pre self.now.stmt) (G.post self.now.stmt) }
-        ensures { Evals (forms.index (parts self.now.functions.now H.meaning self.now.calls self.now.depth).outside ((parts self.now.functions.now H.meaning self.now.calls self.now.depth).expr a.now frame.now) ((parts self.now.functions.now H.meaning self.now.calls self.now.depth).expr k.now frame.now) (state.old, host.old)) result (state.new, host.new) }
+        ensures { Evals (forms.index (parts self.now.functions.now H.meaning self.now.calls self.now.depth).outside ((parts self.now.functions.now H.meaning self.now.calls self.now.depth).expr a.now activation.now) ((parts self.now.functions.now H.meaning self.now.calls self.now.depth).expr k.now activation.now) (state.old, host.old)) result (state.new, host.new) }
     {
-        let base = self.expr(frame, state, host, a)?;
-        let key = self.expr(frame, state, host, k)?;
+        let base = self.expr(activation, state, host, a)?;
+        let key = self.expr(activation, state, host, k)?;
         spend(state, property_cost(&base, &key))?;
         self.get(state, host, &base, &key)
     }
@@ -248,17 +248,17 @@ impl<
     #[tactic(auto, unfolding(mt_eval_meaning::specs::Expressions::assignment))]
     pub fn assignment(
         &self,
-        frame: &[Address],
+        activation: &[Address],
         state: &mut State,
         host: &mut H,
         a: &Expr,
         e: &Expr,
     ) -> Result<Value, Exit>
         requires { Nests H.meaning (rank self.now.calls self.now.depth) (F.pre self.now.expr) (F.post self.now.expr) (G.pre self.now.stmt) (G.post self.now.stmt) }
-        ensures { Evals (forms.assignment (parts self.now.functions.now H.meaning self.now.calls self.now.depth).outside (spec.target self.now.functions.now (parts self.now.functions.now H.meaning self.now.calls self.now.depth) a.now frame.now) ((parts self.now.functions.now H.meaning self.now.calls self.now.depth).expr e.now frame.now) (state.old, host.old)) result (state.new, host.new) }
+        ensures { Evals (forms.assignment (parts self.now.functions.now H.meaning self.now.calls self.now.depth).outside (spec.target self.now.functions.now (parts self.now.functions.now H.meaning self.now.calls self.now.depth) a.now activation.now) ((parts self.now.functions.now H.meaning self.now.calls self.now.depth).expr e.now activation.now) (state.old, host.old)) result (state.new, host.new) }
     {
-        let place = self.target(frame, state, host, a)?;
-        let v = self.expr(frame, state, host, e)?;
+        let place = self.target(activation, state, host, a)?;
+        let v = self.expr(activation, state, host, e)?;
         spend(state, 0)?;
         self.write(state, host, &place, &v)?;
         Ok(v)
@@ -271,7 +271,7 @@ impl<
     #[tactic(auto, unfolding(mt_eval_meaning::specs::Expressions::update))]
     pub fn update(
         &self,
-        frame: &[Address],
+        activation: &[Address],
         state: &mut State,
         host: &mut H,
         op: Binary,
@@ -279,11 +279,11 @@ impl<
         e: &Expr,
     ) -> Result<Value, Exit>
         requires { Nests H.meaning (rank self.now.calls self.now.depth) (F.pre self.now.expr) (F.post self.now.expr) (G.pre self.now.stmt) (G.post self.now.stmt) }
-        ensures { Evals (forms.update (parts self.now.functions.now H.meaning self.now.calls self.now.depth).outside op (spec.target self.now.functions.now (parts self.now.functions.now H.meaning self.now.calls self.now.depth) a.now frame.now) ((parts self.now.functions.now H.meaning self.now.calls self.now.depth).expr e.now frame.now) (state.old, host.old)) result (state.new, host.new) }
+        ensures { Evals (forms.update (parts self.now.functions.now H.meaning self.now.calls self.now.depth).outside op (spec.target self.now.functions.now (parts self.now.functions.now H.meaning self.now.calls self.now.depth) a.now activation.now) ((parts self.now.functions.now H.meaning self.now.calls self.now.depth).expr e.now activation.now) (state.old, host.old)) result (state.new, host.new) }
     {
-        let place = self.target(frame, state, host, a)?;
+        let place = self.target(activation, state, host, a)?;
         let old = self.read_free(state, host, &place)?;
-        let v = self.expr(frame, state, host, e)?;
+        let v = self.expr(activation, state, host, e)?;
         spend(state, binary_cost(op, &old, &v))?;
         let new = binary(self.alloc, state, op, &old, &v)?;
         self.write(state, host, &place, &new)?;
@@ -297,16 +297,16 @@ impl<
     #[tactic(auto, unfolding(mt_eval_meaning::specs::Expressions::count))]
     pub fn step(
         &self,
-        frame: &[Address],
+        activation: &[Address],
         state: &mut State,
         host: &mut H,
         kind: StepKind,
         a: &Expr,
     ) -> Result<Value, Exit>
         requires { Nests H.meaning (rank self.now.calls self.now.depth) (F.pre self.now.expr) (F.post self.now.expr) (G.pre self.now.stmt) (G.post self.now.stmt) }
-        ensures { Evals (forms.count (parts self.now.functions.now H.meaning self.now.calls self.now.depth).outside kind (spec.target self.now.functions.now (parts self.now.functions.now H.meaning self.now.calls self.now.depth) a.now frame.now) (state.old, host.old)) result (state.new, host.new) }
+        ensures { Evals (forms.count (parts self.now.functions.now H.meaning self.now.calls self.now.depth).outside kind (spec.target self.now.functions.now (parts self.now.functions.now H.meaning self.now.calls self.now.depth) a.now activation.now) (state.old, host.old)) result (state.new, host.new) }
     {
-        let place = self.target(frame, state, host, a)?;
+        let place = self.target(activation, state, host, a)?;
         let old = self.read_free(state, host, &place)?;
         spend(state, 0)?;
         let new = count(self.alloc, state, kind, &old)?;

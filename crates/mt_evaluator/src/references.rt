@@ -201,22 +201,22 @@ impl<
     #[tactic(auto, unfolding(mt_eval_meaning::specs::Slots::target))]
     pub fn target(
         &self,
-        frame: &[Address],
+        activation: &[Address],
         state: &mut State,
         host: &mut H,
         e: &Expr,
     ) -> Result<Reference, Exit>
         requires { Nests H.meaning (rank self.now.calls self.now.depth) (F.pre self.now.expr) (F.post self.now.expr) (G.pre self.now.stmt) (G.post self.now.stmt) }
-        ensures { Evals (spec.target self.now.functions.now (parts self.now.functions.now H.meaning self.now.calls self.now.depth) e.now frame.now (state.old, host.old)) result (state.new, host.new) }
+        ensures { Evals (spec.target self.now.functions.now (parts self.now.functions.now H.meaning self.now.calls self.now.depth) e.now activation.now (state.old, host.old)) result (state.new, host.new) }
     {
         match e {
             Expr::Name(name) => Ok(Reference::Name(
                 name.text.share()?,
-                referent(frame, name.binding),
+                referent(activation, name.binding),
             )),
             Expr::Index(a, k) => {
-                let base = self.expr(frame, state, host, a.get())?;
-                let key = self.expr(frame, state, host, k.get())?;
+                let base = self.expr(activation, state, host, a.get())?;
+                let key = self.expr(activation, state, host, k.get())?;
                 Ok(Reference::Property(base, key))
             }
             _ => Ok(Reference::Property(Value::Undefined, Value::Undefined)),

@@ -41,21 +41,21 @@ impl<
         &self,
         calls: usize,
         depth: usize,
-        frame: &[Address],
+        activation: &[Address],
         state: &mut State,
         host: &mut H,
         t: &Stmt,
     ) -> Result<Completion, Exit>
         requires below { rank calls depth ≤ rank self.now.calls self.now.depth }
         requires nests { Nests H.meaning (rank self.now.calls self.now.depth) (F.pre self.now.expr) (F.post self.now.expr) (G.pre self.now.stmt) (G.post self.now.stmt) }
-        ensures { Evals ((parts self.now.functions.now H.meaning calls depth).stmt t.now frame.now (state.old, host.old)) result (state.new, host.new) }
+        ensures { Evals ((parts self.now.functions.now H.meaning calls depth).stmt t.now activation.now (state.old, host.old)) result (state.new, host.new) }
     {
         (self.stmt)(
             self.alloc,
             self.functions,
             calls,
             depth,
-            frame,
+            activation,
             state,
             host,
             t,
@@ -70,17 +70,17 @@ impl<
         &self,
         calls: usize,
         depth: usize,
-        frame: &[Address],
+        activation: &[Address],
         state: &mut State,
         host: &mut H,
         mut items: &[Stmt],
     ) -> Result<Completion, Exit>
         requires below { rank calls depth ≤ rank self.now.calls self.now.depth }
         requires nests { Nests H.meaning (rank self.now.calls self.now.depth) (F.pre self.now.expr) (F.post self.now.expr) (G.pre self.now.stmt) (G.post self.now.stmt) }
-        ensures { Evals (spec.stmts self.now.functions.now (parts self.now.functions.now H.meaning calls depth) items.entry.now frame.now (state.old, host.old)) result (state.new, host.new) }
+        ensures { Evals (spec.stmts self.now.functions.now (parts self.now.functions.now H.meaning calls depth) items.entry.now activation.now (state.old, host.old)) result (state.new, host.new) }
     {
         while let [t, rest @ ..] = items {
-            match self.stmt(calls, depth, frame, state, host, t)? {
+            match self.stmt(calls, depth, activation, state, host, t)? {
                 Completion::Normal => items = rest,
                 Completion::Break => return Ok(Completion::Break),
                 Completion::Continue => return Ok(Completion::Continue),

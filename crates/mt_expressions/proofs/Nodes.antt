@@ -27,31 +27,31 @@ tilde_layer id dollars = search (rules, the_lemmas)
 element_layer : (tag : List ℕ) (attributes : List Attribute) (children : List Piece) → out-Expr (code.Element tag attributes children) ≡ Expr-F.Element tag attributes children
 element_layer tag attributes children = search (rules, the_lemmas)
 
-module _ {H : Type 0} (functions : List Function) (p : Parts H) (frame : List ℕ) (s : State × H) (e : Expr) where
-  pub of_array : (items xs : List Expr) → e ≡ code.Arr items → xs ≡ items → expr functions p e frame s ≡ forms.array (exprs functions p xs frame) s
+module _ {H : Type 0} (functions : List Function) (p : Parts H) (activation : List ℕ) (s : State × H) (e : Expr) where
+  pub of_array : (items xs : List Expr) → e ≡ code.Arr items → xs ≡ items → expr functions p e activation s ≡ forms.array (exprs functions p xs activation) s
   unfolding expr
-  of_array items xs is same = ap (λ l. expr_at functions p l frame s) (ap out-Expr is ∙ array_layer items) ∙ ap (λ es. forms.array (exprs functions p es frame) s) (sym same)
+  of_array items xs is same = ap (λ l. expr_at functions p l activation s) (ap out-Expr is ∙ array_layer items) ∙ ap (λ es. forms.array (exprs functions p es activation) s) (sym same)
 
-  pub of_object : (entries qs : List Entry) → e ≡ code.Obj entries → qs ≡ entries → expr functions p e frame s ≡ forms.object (map (λ q. entry functions p q frame) qs) s
+  pub of_object : (entries qs : List Entry) → e ≡ code.Obj entries → qs ≡ entries → expr functions p e activation s ≡ forms.object (map (λ q. entry functions p q activation) qs) s
   unfolding expr
-  of_object entries qs is same = ap (λ l. expr_at functions p l frame s) (ap out-Expr is ∙ object_layer entries) ∙ ap (λ es. forms.object (map (λ q. entry functions p q frame) es) s) (sym same)
+  of_object entries qs is same = ap (λ l. expr_at functions p l activation s) (ap out-Expr is ∙ object_layer entries) ∙ ap (λ es. forms.object (map (λ q. entry functions p q activation) es) s) (sym same)
 
   pub of_call : (f g : Expr) (arguments xs : List Expr) → e ≡ code.Call f arguments → g ≡ f → xs ≡ arguments
-      → expr functions p e frame s ≡ calls.call p.outside (callee functions p g frame) (exprs functions p xs frame) s
+      → expr functions p e activation s ≡ calls.call p.outside (callee functions p g activation) (exprs functions p xs activation) s
   unfolding expr
   of_call f g arguments xs is same same' =
-      ap (λ l. expr_at functions p l frame s) (ap out-Expr is ∙ call_layer f arguments)
-      ∙ ap (λ e. calls.call p.outside (callee functions p e frame) (exprs functions p arguments frame) s) (sym same)
-      ∙ ap (λ es. calls.call p.outside (callee functions p g frame) (exprs functions p es frame) s) (sym same')
+      ap (λ l. expr_at functions p l activation s) (ap out-Expr is ∙ call_layer f arguments)
+      ∙ ap (λ e. calls.call p.outside (callee functions p e activation) (exprs functions p arguments activation) s) (sym same)
+      ∙ ap (λ es. calls.call p.outside (callee functions p g activation) (exprs functions p es activation) s) (sym same')
 
-  pub of_tilde : (id : ℕ) (dollars xs : List Expr) → e ≡ code.Tilde id dollars → xs ≡ dollars → expr functions p e frame s ≡ forms.tilde p.outside id (exprs functions p xs frame) s
+  pub of_tilde : (id : ℕ) (dollars xs : List Expr) → e ≡ code.Tilde id dollars → xs ≡ dollars → expr functions p e activation s ≡ forms.tilde p.outside id (exprs functions p xs activation) s
   unfolding expr
-  of_tilde id dollars xs is same = ap (λ l. expr_at functions p l frame s) (ap out-Expr is ∙ tilde_layer id dollars) ∙ ap (λ es. forms.tilde p.outside id (exprs functions p es frame) s) (sym same)
+  of_tilde id dollars xs is same = ap (λ l. expr_at functions p l activation s) (ap out-Expr is ∙ tilde_layer id dollars) ∙ ap (λ es. forms.tilde p.outside id (exprs functions p es activation) s) (sym same)
 
   pub of_element : (tag : List ℕ) (attributes named : List Attribute) (children pieces : List Piece) → e ≡ code.Element tag attributes children → named ≡ attributes → pieces ≡ children
-      → expr functions p e frame s ≡ forms.element p.outside tag (map (λ a. attribute functions p a frame) named) (map (λ c. piece functions p c frame) pieces) s
+      → expr functions p e activation s ≡ forms.element p.outside tag (map (λ a. attribute functions p a activation) named) (map (λ c. piece functions p c activation) pieces) s
   unfolding expr
   of_element tag attributes named children pieces is same same' =
-      ap (λ l. expr_at functions p l frame s) (ap out-Expr is ∙ element_layer tag attributes children)
-      ∙ ap (λ es. forms.element p.outside tag (map (λ a. attribute functions p a frame) es) (map (λ c. piece functions p c frame) children) s) (sym same)
-      ∙ ap (λ es. forms.element p.outside tag (map (λ a. attribute functions p a frame) named) (map (λ c. piece functions p c frame) es) s) (sym same')
+      ap (λ l. expr_at functions p l activation s) (ap out-Expr is ∙ element_layer tag attributes children)
+      ∙ ap (λ es. forms.element p.outside tag (map (λ a. attribute functions p a activation) es) (map (λ c. piece functions p c activation) children) s) (sym same)
+      ∙ ap (λ es. forms.element p.outside tag (map (λ a. attribute functions p a activation) named) (map (λ c. piece functions p c activation) es) s) (sym same')

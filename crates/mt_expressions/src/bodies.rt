@@ -80,18 +80,18 @@ impl<
         &self,
         calls: usize,
         depth: usize,
-        frame: &[Address],
+        activation: &[Address],
         state: &mut State,
         host: &mut H,
         items: &[Stmt],
     ) -> Result<Value, Exit>
         requires below { rank calls depth ≤ rank self.now.level.calls self.now.level.depth }
         requires nests { Nests H.meaning (rank self.now.level.calls self.now.level.depth) (F.pre self.now.level.expr) (F.post self.now.level.expr) (G.pre self.now.level.stmt) (G.post self.now.level.stmt) }
-        ensures { Evals (spec.body self.now.level.functions.now (parts self.now.level.functions.now H.meaning calls depth) items.now frame.now (state.old, host.old)) result (state.new, host.new) }
+        ensures { Evals (spec.body self.now.level.functions.now (parts self.now.level.functions.now H.meaning calls depth) items.now activation.now (state.old, host.old)) result (state.new, host.new) }
     {
         let ending = self
             .level
-            .sequence(calls, depth, frame, state, host, items)?;
+            .sequence(calls, depth, activation, state, host, items)?;
         Ok(returned(ending))
     }
 
@@ -112,7 +112,7 @@ impl<
         let Some(function) = function else {
             return Err(throw(self.level.alloc, state, &ErrorKind::NotFunction));
         };
-        let frame = enter_function(
+        let activation = enter_function(
             self.level.alloc,
             self.level.functions,
             state,
@@ -124,7 +124,7 @@ impl<
         self.body(
             self.level.calls - 1,
             DEEPEST,
-            frame.items(),
+            activation.items(),
             state,
             host,
             function.body.statements.items(),

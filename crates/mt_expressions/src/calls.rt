@@ -79,17 +79,17 @@ impl<
     #[tactic(auto, unfolding(mt_eval_meaning::specs::Calls::member_callee))]
     fn member_callee(
         &self,
-        frame: &[Address],
+        activation: &[Address],
         state: &mut State,
         host: &mut H,
         a: &Expr,
         k: &Expr,
     ) -> Result<Callee, Exit>
         requires { Nests H.meaning (rank self.now.level.calls self.now.level.depth) (F.pre self.now.level.expr) (F.post self.now.level.expr) (G.pre self.now.level.stmt) (G.post self.now.level.stmt) }
-        ensures { Evals (calls.member_callee (parts self.now.level.functions.now H.meaning self.now.level.calls self.now.level.depth).outside ((parts self.now.level.functions.now H.meaning self.now.level.calls self.now.level.depth).expr a.now frame.now) ((parts self.now.level.functions.now H.meaning self.now.level.calls self.now.level.depth).expr k.now frame.now) (state.old, host.old)) result (state.new, host.new) }
+        ensures { Evals (calls.member_callee (parts self.now.level.functions.now H.meaning self.now.level.calls self.now.level.depth).outside ((parts self.now.level.functions.now H.meaning self.now.level.calls self.now.level.depth).expr a.now activation.now) ((parts self.now.level.functions.now H.meaning self.now.level.calls self.now.level.depth).expr k.now activation.now) (state.old, host.old)) result (state.new, host.new) }
     {
-        let base = self.level.expr(frame, state, host, a)?;
-        let key = self.level.expr(frame, state, host, k)?;
+        let base = self.level.expr(activation, state, host, a)?;
+        let key = self.level.expr(activation, state, host, k)?;
         let name = method_name(&base, &key);
         self.member_by(state, host, name, base.share()?, &key)
     }
@@ -97,32 +97,32 @@ impl<
     #[tactic(auto, unfolding(mt_eval_meaning::specs::Calls::plain_callee))]
     fn plain_callee(
         &self,
-        frame: &[Address],
+        activation: &[Address],
         state: &mut State,
         host: &mut H,
         e: &Expr,
     ) -> Result<Callee, Exit>
         requires { Nests H.meaning (rank self.now.level.calls self.now.level.depth) (F.pre self.now.level.expr) (F.post self.now.level.expr) (G.pre self.now.level.stmt) (G.post self.now.level.stmt) }
-        ensures { Evals (calls.plain_callee (parts self.now.level.functions.now H.meaning self.now.level.calls self.now.level.depth).outside ((parts self.now.level.functions.now H.meaning self.now.level.calls self.now.level.depth).expr e.now frame.now) (state.old, host.old)) result (state.new, host.new) }
+        ensures { Evals (calls.plain_callee (parts self.now.level.functions.now H.meaning self.now.level.calls self.now.level.depth).outside ((parts self.now.level.functions.now H.meaning self.now.level.calls self.now.level.depth).expr e.now activation.now) (state.old, host.old)) result (state.new, host.new) }
     {
-        let f = self.level.expr(frame, state, host, e)?;
+        let f = self.level.expr(activation, state, host, e)?;
         Ok(Callee::Function(f))
     }
 
     #[tactic(auto, unfolding(mt_eval_meaning::specs::Slots::callee))]
     fn callee(
         &self,
-        frame: &[Address],
+        activation: &[Address],
         state: &mut State,
         host: &mut H,
         e: &Expr,
     ) -> Result<Callee, Exit>
         requires { Nests H.meaning (rank self.now.level.calls self.now.level.depth) (F.pre self.now.level.expr) (F.post self.now.level.expr) (G.pre self.now.level.stmt) (G.post self.now.level.stmt) }
-        ensures { Evals (spec.callee self.now.level.functions.now (parts self.now.level.functions.now H.meaning self.now.level.calls self.now.level.depth) e.now frame.now (state.old, host.old)) result (state.new, host.new) }
+        ensures { Evals (spec.callee self.now.level.functions.now (parts self.now.level.functions.now H.meaning self.now.level.calls self.now.level.depth) e.now activation.now (state.old, host.old)) result (state.new, host.new) }
     {
         match e {
-            Expr::Index(a, k) => self.member_callee(frame, state, host, a.get(), k.get()),
-            _ => self.plain_callee(frame, state, host, e),
+            Expr::Index(a, k) => self.member_callee(activation, state, host, a.get(), k.get()),
+            _ => self.plain_callee(activation, state, host, e),
         }
     }
 
@@ -203,17 +203,17 @@ impl<
     #[tactic(auto, unfolding(mt_eval_meaning::specs::Calls::call))]
     pub(crate) fn call(
         &self,
-        frame: &[Address],
+        activation: &[Address],
         state: &mut State,
         host: &mut H,
         f: &Expr,
         arguments: &[Expr],
     ) -> Result<Value, Exit>
         requires { Nests H.meaning (rank self.now.level.calls self.now.level.depth) (F.pre self.now.level.expr) (F.post self.now.level.expr) (G.pre self.now.level.stmt) (G.post self.now.level.stmt) }
-        ensures { Evals (calls.call (parts self.now.level.functions.now H.meaning self.now.level.calls self.now.level.depth).outside (spec.callee self.now.level.functions.now (parts self.now.level.functions.now H.meaning self.now.level.calls self.now.level.depth) f.now frame.now) (spec.exprs self.now.level.functions.now (parts self.now.level.functions.now H.meaning self.now.level.calls self.now.level.depth) arguments.now frame.now) (state.old, host.old)) result (state.new, host.new) }
+        ensures { Evals (calls.call (parts self.now.level.functions.now H.meaning self.now.level.calls self.now.level.depth).outside (spec.callee self.now.level.functions.now (parts self.now.level.functions.now H.meaning self.now.level.calls self.now.level.depth) f.now activation.now) (spec.exprs self.now.level.functions.now (parts self.now.level.functions.now H.meaning self.now.level.calls self.now.level.depth) arguments.now activation.now) (state.old, host.old)) result (state.new, host.new) }
     {
-        let callee = self.callee(frame, state, host, f)?;
-        let values = self.level.exprs(frame, state, host, arguments)?;
+        let callee = self.callee(activation, state, host, f)?;
+        let values = self.level.exprs(activation, state, host, arguments)?;
         self.invoked(state, host, &callee, values.items())
     }
 }

@@ -36,7 +36,7 @@ impl<
 > Expressions<'a, H, F, G> {
     fn assigned_by(
         &self,
-        frame: &[Address],
+        activation: &[Address],
         state: &mut State,
         host: &mut H,
         op: Option<Binary>,
@@ -44,11 +44,11 @@ impl<
         e: &Expr,
     ) -> Result<Value, Exit>
         requires { Nests H.meaning (rank self.now.level.calls self.now.level.depth) (F.pre self.now.level.expr) (F.post self.now.level.expr) (G.pre self.now.level.stmt) (G.post self.now.level.stmt) }
-        ensures { Evals (spec.assigned_by self.now.level.functions.now (parts self.now.level.functions.now H.meaning self.now.level.calls self.now.level.depth) op a.now e.now frame.now (state.old, host.old)) result (state.new, host.new) }
+        ensures { Evals (spec.assigned_by self.now.level.functions.now (parts self.now.level.functions.now H.meaning self.now.level.calls self.now.level.depth) op a.now e.now activation.now (state.old, host.old)) result (state.new, host.new) }
     {
         match op {
-            None => self.level.assignment(frame, state, host, a, e),
-            Some(op) => self.level.update(frame, state, host, op, a, e),
+            None => self.level.assignment(activation, state, host, a, e),
+            Some(op) => self.level.update(activation, state, host, op, a, e),
         }
     }
 
@@ -59,41 +59,60 @@ impl<
     #[tactic(auto, unfolding(mt_eval_meaning::specs::Slots::expr))]
     pub fn node(
         &self,
-        frame: &[Address],
+        activation: &[Address],
         state: &mut State,
         host: &mut H,
         e: &Expr,
     ) -> Result<Value, Exit>
         requires { Nests H.meaning (rank self.now.level.calls self.now.level.depth) (F.pre self.now.level.expr) (F.post self.now.level.expr) (G.pre self.now.level.stmt) (G.post self.now.level.stmt) }
-        ensures { Evals (spec.expr self.now.level.functions.now (parts self.now.level.functions.now H.meaning self.now.level.calls self.now.level.depth) e.now frame.now (state.old, host.old)) result (state.new, host.new) }
+        ensures { Evals (spec.expr self.now.level.functions.now (parts self.now.level.functions.now H.meaning self.now.level.calls self.now.level.depth) e.now activation.now (state.old, host.old)) result (state.new, host.new) }
     {
         match e {
-            Expr::Name(name) => self.level.name(frame, state, host, name),
+            Expr::Name(name) => self.level.name(activation, state, host, name),
             Expr::Num(n) => self.level.constant(state, host, Value::Num(*n)),
             Expr::Text(text) => self.level.constant(state, host, Value::Text(text.share()?)),
             Expr::Bool(b) => self.level.constant(state, host, Value::Bool(*b)),
             Expr::Null => self.level.constant(state, host, Value::Null),
             Expr::Undefined => self.level.constant(state, host, Value::Undefined),
-            Expr::Arr(items) => self.level.array(frame, state, host, items.items()),
-            Expr::Obj(entries) => self.level.object(frame, state, host, entries.items()),
-            Expr::Fun(function) => self.level.function(frame, state, host, *function),
-            Expr::Unary(op, a) => self.level.unary(frame, state, host, *op, a.get()),
-            Expr::Step(kind, a) => self.level.step(frame, state, host, *kind, a.get()),
+            Expr::Arr(items) => self.level.array(activation, state, host, items.items()),
+            Expr::Obj(entries) => self.level.object(activation, state, host, entries.items()),
+            Expr::Fun(function) => self.level.function(activation, state, host, *function),
+            Expr::Unary(op, a) => self.level.unary(activation, state, host, *op, a.get()),
+            Expr::Step(kind, a) => self.level.step(activation, state, host, *kind, a.get()),
             Expr::Binary(op, a, b) => self
                 .level
-                .operation(frame, state, host, *op, a.get(), b.get()),
-            Expr::And(a, b) => self.level.conjunction(frame, state, host, a.get(), b.get()),
-            Expr::Or(a, b) => self.level.disjunction(frame, state, host, a.get(), b.get()),
+                .operation(activation, state, host, *op, a.get(), b.get()),
+            Expr::And(a, b) => self
+                .level
+                .conjunction(activation, state, host, a.get(), b.get()),
+            Expr::Or(a, b) => self
+                .level
+                .disjunction(activation, state, host, a.get(), b.get()),
             Expr::Cond(a, b, c) => self
                 .level
-                .conditional(frame, state, host, a.get(), b.get(), c.get()),
-            Expr::Assign(op, a, b) => self.assigned_by(frame, state, host, *op, a.get(), b.get()),
-            Expr::Index(a, k) => self.level.index(frame, state, host, a.get(), k.get()),
-            Expr::Call(f, arguments) => self.call(frame, state, host, f.get(), arguments.items()),
-            Expr::Tilde(id, dollars) => self.level.tilde(frame, state, host, *id, dollars.items()),
+                .conditional(activation, state, host, a.get(), b.get(), c.get()),
+            Expr::Assign(op, a, b) => self.assigned_by(
+                activation,
+                state,
+                host,
+                *op,
+                a.get(),
+                b.get(),
+            ),
+            Expr::Index(a, k) => self.level.index(activation, state, host, a.get(), k.get()),
+            Expr::Call(f, arguments) => self.call(
+                activation,
+                state,
+                host,
+                f.get(),
+                arguments.items(),
+            ),
+            Expr::Tilde(id, dollars) => self
+                .level
+                .tilde(activation, state, host, *id, dollars.items()),
             Expr::Element(tag, attributes, children) => {
                 self.level.element(
-                    frame,
+                    activation,
                     state,
                     host,
                     tag,

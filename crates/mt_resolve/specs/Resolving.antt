@@ -84,7 +84,7 @@ module _ (around : Surroundings) (first : ℕ) (p : Parts) where
   unfoldable pub all_hoisted : Scope → List SyntaxStmt → M (List Hoisted)
   all_hoisted scope ts = hoisted_from scope [] ts
 
-  -- a body whose entry stands behind a frame of that size, over what is captured
+  -- a body whose entry stands behind an activation of that size, over what is captured
   unfoldable pub body : ℕ → Option (List ℕ) → List (List ℕ) → Scope → List SyntaxStmt → M Body
   body size own parameters outer ts = do
     hs ← all_hoisted (body_entry size own parameters ts ++ outer) ts

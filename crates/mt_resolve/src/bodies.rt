@@ -101,7 +101,7 @@ fn with_captured(
     )
 }
 
-/// The body of a function, over the scope `outer` of what it captures: its entry stands behind a frame of that size. `own` is the name
+/// The body of a function, over the scope `outer` of what it captures: its entry stands behind an activation of that size. `own` is the name
 /// of a function expression.
 ///
 /// # Errors

@@ -1,7 +1,7 @@
 //! Names are resolved to slots: a program, or the code of a tilde, becomes code on slots that stands for it.
 //!
 //! [`resolve`] makes the units of a file, and [`resolve_client`] adds the unit of client code to those of a page. Each name that is
-//! bound in the code gets the slot of its variable in the frame; a function captures the variables of the names that are free in it, and
+//! bound in the code gets the slot of its variable in the activation; a function captures the variables of the names that are free in it, and
 //! no others. A name that nothing inside binds stays one of a service, a builtin or a global variable, as the surroundings say. What
 //! they give is proved to stand for the syntax (`mt_eval_meaning`, `specs/Code.antt`), so it is evaluated as the syntax is.
 //!

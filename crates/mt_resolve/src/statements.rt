@@ -114,7 +114,7 @@ fn branch(
     }
 }
 
-// What was thrown is in a new slot behind the frame's.
+// What was thrown is in a new slot behind the activation's.
 #[cycle(resolving)]
 #[tactic(auto, unfolding(crate::specs::Resolving::handler))]
 fn handler(
@@ -143,7 +143,7 @@ struct EnteredBlock {
     slots: usize,
 }
 
-// The slots of a block stand behind the frame's.
+// The slots of a block stand behind the activation's.
 #[tactic(auto, using(crate::proofs::Blocks::slots_of_block))]
 fn enter_block(r: &Resolver, size: usize, from: &[syntax::Stmt]) -> Result<EnteredBlock, NoMemory>
     ensures entry { IfOk result (λ entered. entered.entry ≡ (size, with_lexicals size (lexicals from.now) [])) }
@@ -174,7 +174,7 @@ fn block(
     Ok(Stmt::Block(entered.slots, us))
 }
 
-/// The code of each of the statements, in order. Blocks in them stand behind a frame of that size.
+/// The code of each of the statements, in order. Blocks in them stand behind an activation of that size.
 ///
 /// # Errors
 /// `Stop::Depth` where a statement is deeper than `depth`, and `NoMemory`.

@@ -56,7 +56,7 @@ fn bound_names(alloc: Global, parameters: &[Mark], body: &Row<Stmt>) -> Result<V
     Ok(names)
 }
 
-/// The entry of a function's body, behind a frame of that size. `own` is the name of a function expression.
+/// The entry of a function's body, behind an activation of that size. `own` is the name of a function expression.
 ///
 /// # Errors
 /// `NoMemory`.

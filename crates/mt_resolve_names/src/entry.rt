@@ -11,10 +11,10 @@ use mt_tree::{NoMemory, Text, VarKind, push};
 use std::alloc::Global;
 use std::marker::Model;
 
-/// The slots of one entry. Contracts see the size of the frame behind which they stand, and the slots, the newest first.
+/// The slots of one entry. Contracts see the size of the activation behind which they stand, and the slots, the newest first.
 #[derive(Drop)]
 pub struct Entry {
-    // The size of the frame.
+    // The size of the activation.
     size: usize,
     // Oldest first.
     slots: Vec<Slot>,
@@ -30,7 +30,7 @@ impl Model for Entry {
 }
 
 impl Entry {
-    /// No names, behind a frame of that size. Takes no memory.
+    /// No names, behind an activation of that size. Takes no memory.
     pub fn new(alloc: Global, size: usize) -> Entry
         ensures { result ≡ (size, []) }
     {

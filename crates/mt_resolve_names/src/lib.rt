@@ -1,4 +1,4 @@
-//! What the names of code stand for: the slots of frames, the services, the builtins and the global variables.
+//! What the names of code stand for: the slots of activations, the services, the builtins and the global variables.
 //!
 //! A scope is a list of slots, the newest first ([`find`], [`captured_scope`]); [`Entry`] makes the scope of a block, and
 //! [`enter`] that of a function's body, name by name as the definition enters it; [`Surroundings`] says what a name is that no scope

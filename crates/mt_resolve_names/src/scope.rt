@@ -66,7 +66,7 @@ fn without_one(alloc: Global, name: &Text, names: &[Text]) -> Result<Vec<Text>, 
     without(alloc, one.as_slice(), names)
 }
 
-/// The scope of what a function captures: its frame begins with the captured addresses.
+/// The scope of what a function captures: its activation begins with the captured addresses.
 ///
 /// # Errors
 /// `NoMemory`.
@@ -90,7 +90,7 @@ pub fn captured_scope(alloc: Global, kept: &[Slot]) -> Result<Vec<Slot>, NoMemor
     Ok(scope)
 }
 
-/// The places in the frame of the slots of a scope, in order.
+/// The places in the activation of the slots of a scope, in order.
 ///
 /// # Errors
 /// `NoMemory`.

@@ -8,7 +8,7 @@ use std::marker::Model;
 pub struct Slot {
     /// The name.
     pub name: Text,
-    /// The place of its address in the frame, from 0.
+    /// The place of its address in the activation, from 0.
     pub slot: usize,
     /// Whether it is a constant.
     pub constant: bool,

@@ -27,27 +27,27 @@ return_layer e = search (rules, the_lemmas)
 block_layer : (names : ℕ) (ts : List Stmt) → out-Stmt (code.Block names ts) ≡ Stmt-F.Block names ts
 block_layer names ts = search (rules, the_lemmas)
 
-module _ {H : Type 0} (functions : List Function) (p : Parts H) (frame : List ℕ) (s : State × H) (t : Stmt) where
-  pub of_var : (kind : VarKind) (decls xs : List Decl) → t ≡ code.Var kind decls → xs ≡ decls → stmt_at functions p (out-Stmt t) frame s ≡ statements.finished (declarations functions p kind xs frame) s
-  of_var kind decls xs is same = ap (λ l. stmt_at functions p l frame s) (ap out-Stmt is ∙ var_layer kind decls) ∙ ap (λ ds. statements.finished (declarations functions p kind ds frame) s) (sym same)
+module _ {H : Type 0} (functions : List Function) (p : Parts H) (activation : List ℕ) (s : State × H) (t : Stmt) where
+  pub of_var : (kind : VarKind) (decls xs : List Decl) → t ≡ code.Var kind decls → xs ≡ decls → stmt_at functions p (out-Stmt t) activation s ≡ statements.finished (declarations functions p kind xs activation) s
+  of_var kind decls xs is same = ap (λ l. stmt_at functions p l activation s) (ap out-Stmt is ∙ var_layer kind decls) ∙ ap (λ ds. statements.finished (declarations functions p kind ds activation) s) (sym same)
 
   pub of_if : (test : Expr) (a a' : Stmt) (b b' : Option Stmt) → t ≡ code.If test a b → a' ≡ a → b' ≡ b
-      → stmt_at functions p (out-Stmt t) frame s ≡ statements.choice (p.expr test frame) (p.stmt a' frame) (or_else functions p b' frame) s
+      → stmt_at functions p (out-Stmt t) activation s ≡ statements.choice (p.expr test activation) (p.stmt a' activation) (or_else functions p b' activation) s
   of_if test a a' b b' is same same' =
-      ap (λ l. stmt_at functions p l frame s) (ap out-Stmt is ∙ if_layer test a b)
-      ∙ ap (λ x. statements.choice (p.expr test frame) (p.stmt x frame) (or_else functions p b frame) s) (sym same)
-      ∙ ap (λ x. statements.choice (p.expr test frame) (p.stmt a' frame) (or_else functions p x frame) s) (sym same')
+      ap (λ l. stmt_at functions p l activation s) (ap out-Stmt is ∙ if_layer test a b)
+      ∙ ap (λ x. statements.choice (p.expr test activation) (p.stmt x activation) (or_else functions p b activation) s) (sym same)
+      ∙ ap (λ x. statements.choice (p.expr test activation) (p.stmt a' activation) (or_else functions p x activation) s) (sym same')
 
   pub of_for : (start : ForStart) (test test' step step' : Option Expr) (body body' : Stmt) → t ≡ code.For start test step body → test' ≡ test → step' ≡ step → body' ≡ body
-      → stmt_at functions p (out-Stmt t) frame s ≡ statements.starting (started_by functions p start frame) (statements.loop (tested_by functions p test' frame) (p.stmt body' frame) (stepped_by functions p step' frame)) s
+      → stmt_at functions p (out-Stmt t) activation s ≡ statements.starting (started_by functions p start activation) (statements.loop (tested_by functions p test' activation) (p.stmt body' activation) (stepped_by functions p step' activation)) s
   of_for start test test' step step' body body' is same same' same'' =
-      ap (λ l. stmt_at functions p l frame s) (ap out-Stmt is ∙ for_layer start test step body)
-      ∙ ap (λ x. statements.starting (started_by functions p start frame) (statements.loop (tested_by functions p x frame) (p.stmt body frame) (stepped_by functions p step frame)) s) (sym same)
-      ∙ ap (λ x. statements.starting (started_by functions p start frame) (statements.loop (tested_by functions p test' frame) (p.stmt body frame) (stepped_by functions p x frame)) s) (sym same')
-      ∙ ap (λ x. statements.starting (started_by functions p start frame) (statements.loop (tested_by functions p test' frame) (p.stmt x frame) (stepped_by functions p step' frame)) s) (sym same'')
+      ap (λ l. stmt_at functions p l activation s) (ap out-Stmt is ∙ for_layer start test step body)
+      ∙ ap (λ x. statements.starting (started_by functions p start activation) (statements.loop (tested_by functions p x activation) (p.stmt body activation) (stepped_by functions p step activation)) s) (sym same)
+      ∙ ap (λ x. statements.starting (started_by functions p start activation) (statements.loop (tested_by functions p test' activation) (p.stmt body activation) (stepped_by functions p x activation)) s) (sym same')
+      ∙ ap (λ x. statements.starting (started_by functions p start activation) (statements.loop (tested_by functions p test' activation) (p.stmt x activation) (stepped_by functions p step' activation)) s) (sym same'')
 
-  pub of_return : (e e' : Option Expr) → t ≡ code.Return e → e' ≡ e → stmt_at functions p (out-Stmt t) frame s ≡ returned_by functions p e' frame s
-  of_return e e' is same = ap (λ l. stmt_at functions p l frame s) (ap out-Stmt is ∙ return_layer e) ∙ ap (λ x. returned_by functions p x frame s) (sym same)
+  pub of_return : (e e' : Option Expr) → t ≡ code.Return e → e' ≡ e → stmt_at functions p (out-Stmt t) activation s ≡ returned_by functions p e' activation s
+  of_return e e' is same = ap (λ l. stmt_at functions p l activation s) (ap out-Stmt is ∙ return_layer e) ∙ ap (λ x. returned_by functions p x activation s) (sym same)
 
-  pub of_block : (names : ℕ) (ts xs : List Stmt) → t ≡ code.Block names ts → xs ≡ ts → stmt_at functions p (out-Stmt t) frame s ≡ block functions p names xs frame s
-  of_block names ts xs is same = ap (λ l. stmt_at functions p l frame s) (ap out-Stmt is ∙ block_layer names ts) ∙ ap (λ us. block functions p names us frame s) (sym same)
+  pub of_block : (names : ℕ) (ts xs : List Stmt) → t ≡ code.Block names ts → xs ≡ ts → stmt_at functions p (out-Stmt t) activation s ≡ block functions p names xs activation s
+  of_block names ts xs is same = ap (λ l. stmt_at functions p l activation s) (ap out-Stmt is ∙ block_layer names ts) ∙ ap (λ us. block functions p names us activation s) (sym same)

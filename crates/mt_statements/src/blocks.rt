@@ -39,53 +39,59 @@ impl<
 > Statements<'a, H, F, G> {
     pub(crate) fn stmt(
         &self,
-        frame: &[Address],
+        activation: &[Address],
         state: &mut State,
         host: &mut H,
         t: &Stmt,
     ) -> Result<Completion, Exit>
         requires { Nests H.meaning (rank self.now.level.calls self.now.level.depth) (F.pre self.now.level.expr) (F.post self.now.level.expr) (G.pre self.now.level.stmt) (G.post self.now.level.stmt) }
-        ensures { Evals ((parts self.now.level.functions.now H.meaning self.now.level.calls self.now.level.depth).stmt t.now frame.now (state.old, host.old)) result (state.new, host.new) }
+        ensures { Evals ((parts self.now.level.functions.now H.meaning self.now.level.calls self.now.level.depth).stmt t.now activation.now (state.old, host.old)) result (state.new, host.new) }
     {
-        self.level
-            .stmt(self.level.calls, self.level.depth, frame, state, host, t)
+        self.level.stmt(
+            self.level.calls,
+            self.level.depth,
+            activation,
+            state,
+            host,
+            t,
+        )
     }
 
     #[tactic(auto, unfolding(mt_eval_meaning::specs::Statements::expression))]
     pub(crate) fn expression(
         &self,
-        frame: &[Address],
+        activation: &[Address],
         state: &mut State,
         host: &mut H,
         e: &Expr,
     ) -> Result<Completion, Exit>
         requires { Nests H.meaning (rank self.now.level.calls self.now.level.depth) (F.pre self.now.level.expr) (F.post self.now.level.expr) (G.pre self.now.level.stmt) (G.post self.now.level.stmt) }
-        ensures { Evals (statements.expression ((parts self.now.level.functions.now H.meaning self.now.level.calls self.now.level.depth).expr e.now frame.now) (state.old, host.old)) result (state.new, host.new) }
+        ensures { Evals (statements.expression ((parts self.now.level.functions.now H.meaning self.now.level.calls self.now.level.depth).expr e.now activation.now) (state.old, host.old)) result (state.new, host.new) }
     {
-        let _value = self.level.expr(frame, state, host, e)?;
+        let _value = self.level.expr(activation, state, host, e)?;
         Ok(Completion::Normal)
     }
 
     fn or_else(
         &self,
-        frame: &[Address],
+        activation: &[Address],
         state: &mut State,
         host: &mut H,
         t: Option<&Boxed<Stmt>>,
     ) -> Result<Completion, Exit>
         requires { Nests H.meaning (rank self.now.level.calls self.now.level.depth) (F.pre self.now.level.expr) (F.post self.now.level.expr) (G.pre self.now.level.stmt) (G.post self.now.level.stmt) }
-        ensures { Evals (spec.or_else self.now.level.functions.now (parts self.now.level.functions.now H.meaning self.now.level.calls self.now.level.depth) (option_copied t.entry) frame.now (state.old, host.old)) result (state.new, host.new) }
+        ensures { Evals (spec.or_else self.now.level.functions.now (parts self.now.level.functions.now H.meaning self.now.level.calls self.now.level.depth) (option_copied t.entry) activation.now (state.old, host.old)) result (state.new, host.new) }
     {
         match t {
             None => Ok(Completion::Normal),
-            Some(t) => self.stmt(frame, state, host, t.get()),
+            Some(t) => self.stmt(activation, state, host, t.get()),
         }
     }
 
     #[tactic(auto, unfolding(mt_eval_meaning::specs::Statements::choice))]
     pub(crate) fn choice(
         &self,
-        frame: &[Address],
+        activation: &[Address],
         state: &mut State,
         host: &mut H,
         test: &Expr,
@@ -93,92 +99,92 @@ impl<
         b: Option<&Boxed<Stmt>>,
     ) -> Result<Completion, Exit>
         requires { Nests H.meaning (rank self.now.level.calls self.now.level.depth) (F.pre self.now.level.expr) (F.post self.now.level.expr) (G.pre self.now.level.stmt) (G.post self.now.level.stmt) }
-        ensures { Evals (statements.choice ((parts self.now.level.functions.now H.meaning self.now.level.calls self.now.level.depth).expr test.now frame.now) ((parts self.now.level.functions.now H.meaning self.now.level.calls self.now.level.depth).stmt a.now frame.now) (spec.or_else self.now.level.functions.now (parts self.now.level.functions.now H.meaning self.now.level.calls self.now.level.depth) (option_copied b.entry) frame.now) (state.old, host.old)) result (state.new, host.new) }
+        ensures { Evals (statements.choice ((parts self.now.level.functions.now H.meaning self.now.level.calls self.now.level.depth).expr test.now activation.now) ((parts self.now.level.functions.now H.meaning self.now.level.calls self.now.level.depth).stmt a.now activation.now) (spec.or_else self.now.level.functions.now (parts self.now.level.functions.now H.meaning self.now.level.calls self.now.level.depth) (option_copied b.entry) activation.now) (state.old, host.old)) result (state.new, host.new) }
     {
-        let v = self.level.expr(frame, state, host, test)?;
+        let v = self.level.expr(activation, state, host, test)?;
         if is_truthy(&v) {
-            return self.stmt(frame, state, host, a);
+            return self.stmt(activation, state, host, a);
         }
-        self.or_else(frame, state, host, b)
+        self.or_else(activation, state, host, b)
     }
 
     #[tactic(auto, unfolding(mt_eval_meaning::specs::Statements::given_back))]
     fn given_back(
         &self,
-        frame: &[Address],
+        activation: &[Address],
         state: &mut State,
         host: &mut H,
         e: &Expr,
     ) -> Result<Completion, Exit>
         requires { Nests H.meaning (rank self.now.level.calls self.now.level.depth) (F.pre self.now.level.expr) (F.post self.now.level.expr) (G.pre self.now.level.stmt) (G.post self.now.level.stmt) }
-        ensures { Evals (statements.given_back ((parts self.now.level.functions.now H.meaning self.now.level.calls self.now.level.depth).expr e.now frame.now) (state.old, host.old)) result (state.new, host.new) }
+        ensures { Evals (statements.given_back ((parts self.now.level.functions.now H.meaning self.now.level.calls self.now.level.depth).expr e.now activation.now) (state.old, host.old)) result (state.new, host.new) }
     {
-        let v = self.level.expr(frame, state, host, e)?;
+        let v = self.level.expr(activation, state, host, e)?;
         Ok(Completion::Return(v))
     }
 
     pub(crate) fn returned(
         &self,
-        frame: &[Address],
+        activation: &[Address],
         state: &mut State,
         host: &mut H,
         e: Option<&Expr>,
     ) -> Result<Completion, Exit>
         requires { Nests H.meaning (rank self.now.level.calls self.now.level.depth) (F.pre self.now.level.expr) (F.post self.now.level.expr) (G.pre self.now.level.stmt) (G.post self.now.level.stmt) }
-        ensures { Evals (spec.returned_by self.now.level.functions.now (parts self.now.level.functions.now H.meaning self.now.level.calls self.now.level.depth) (option_copied e.entry) frame.now (state.old, host.old)) result (state.new, host.new) }
+        ensures { Evals (spec.returned_by self.now.level.functions.now (parts self.now.level.functions.now H.meaning self.now.level.calls self.now.level.depth) (option_copied e.entry) activation.now (state.old, host.old)) result (state.new, host.new) }
     {
         match e {
             None => Ok(Completion::Return(Value::Undefined)),
-            Some(e) => self.given_back(frame, state, host, e),
+            Some(e) => self.given_back(activation, state, host, e),
         }
     }
 
     #[tactic(auto, unfolding(mt_eval_meaning::specs::Statements::thrown))]
     pub(crate) fn thrown(
         &self,
-        frame: &[Address],
+        activation: &[Address],
         state: &mut State,
         host: &mut H,
         e: &Expr,
     ) -> Result<Completion, Exit>
         requires { Nests H.meaning (rank self.now.level.calls self.now.level.depth) (F.pre self.now.level.expr) (F.post self.now.level.expr) (G.pre self.now.level.stmt) (G.post self.now.level.stmt) }
-        ensures { Evals (statements.thrown ((parts self.now.level.functions.now H.meaning self.now.level.calls self.now.level.depth).expr e.now frame.now) (state.old, host.old)) result (state.new, host.new) }
+        ensures { Evals (statements.thrown ((parts self.now.level.functions.now H.meaning self.now.level.calls self.now.level.depth).expr e.now activation.now) (state.old, host.old)) result (state.new, host.new) }
     {
-        let v = self.level.expr(frame, state, host, e)?;
+        let v = self.level.expr(activation, state, host, e)?;
         Err(Exit::Throw(v))
     }
 
     #[tactic(auto, unfolding(mt_eval_meaning::specs::Slots::handler))]
     fn handler(
         &self,
-        frame: &[Address],
+        activation: &[Address],
         state: &mut State,
         host: &mut H,
         t: &Stmt,
         v: Value,
     ) -> Result<Completion, Exit>
         requires { Nests H.meaning (rank self.now.level.calls self.now.level.depth) (F.pre self.now.level.expr) (F.post self.now.level.expr) (G.pre self.now.level.stmt) (G.post self.now.level.stmt) }
-        ensures { Evals (spec.handler self.now.level.functions.now (parts self.now.level.functions.now H.meaning self.now.level.calls self.now.level.depth) t.now frame.now v (state.old, host.old)) result (state.new, host.new) }
+        ensures { Evals (spec.handler self.now.level.functions.now (parts self.now.level.functions.now H.meaning self.now.level.calls self.now.level.depth) t.now activation.now v (state.old, host.old)) result (state.new, host.new) }
     {
-        let inner = pushed(state, copied(self.level.alloc, frame)?, v)?;
+        let inner = pushed(state, copied(self.level.alloc, activation)?, v)?;
         self.stmt(inner.items(), state, host, t)
     }
 
     #[tactic(auto, unfolding(mt_eval_meaning::specs::Statements::attempt))]
     pub(crate) fn attempt(
         &self,
-        frame: &[Address],
+        activation: &[Address],
         state: &mut State,
         host: &mut H,
         body: &Stmt,
         t: &Stmt,
     ) -> Result<Completion, Exit>
         requires { Nests H.meaning (rank self.now.level.calls self.now.level.depth) (F.pre self.now.level.expr) (F.post self.now.level.expr) (G.pre self.now.level.stmt) (G.post self.now.level.stmt) }
-        ensures { Evals (statements.attempt ((parts self.now.level.functions.now H.meaning self.now.level.calls self.now.level.depth).stmt body.now frame.now) (spec.handler self.now.level.functions.now (parts self.now.level.functions.now H.meaning self.now.level.calls self.now.level.depth) t.now frame.now) (state.old, host.old)) result (state.new, host.new) }
+        ensures { Evals (statements.attempt ((parts self.now.level.functions.now H.meaning self.now.level.calls self.now.level.depth).stmt body.now activation.now) (spec.handler self.now.level.functions.now (parts self.now.level.functions.now H.meaning self.now.level.calls self.now.level.depth) t.now activation.now) (state.old, host.old)) result (state.new, host.new) }
     {
-        match self.stmt(frame, state, host, body) {
+        match self.stmt(activation, state, host, body) {
             Ok(ending) => Ok(ending),
-            Err(Exit::Throw(v)) => self.handler(frame, state, host, t, v),
+            Err(Exit::Throw(v)) => self.handler(activation, state, host, t, v),
             Err(Exit::Stop(stop)) => Err(Exit::Stop(stop)),
             Err(Exit::NoMemory) => Err(Exit::NoMemory),
         }
@@ -187,16 +193,16 @@ impl<
     #[tactic(auto, unfolding(mt_eval_meaning::specs::Slots::block))]
     pub(crate) fn block(
         &self,
-        frame: &[Address],
+        activation: &[Address],
         state: &mut State,
         host: &mut H,
         names: usize,
         items: &[Stmt],
     ) -> Result<Completion, Exit>
         requires { Nests H.meaning (rank self.now.level.calls self.now.level.depth) (F.pre self.now.level.expr) (F.post self.now.level.expr) (G.pre self.now.level.stmt) (G.post self.now.level.stmt) }
-        ensures { Evals (spec.block self.now.level.functions.now (parts self.now.level.functions.now H.meaning self.now.level.calls self.now.level.depth) names items.now frame.now (state.old, host.old)) result (state.new, host.new) }
+        ensures { Evals (spec.block self.now.level.functions.now (parts self.now.level.functions.now H.meaning self.now.level.calls self.now.level.depth) names items.now activation.now (state.old, host.old)) result (state.new, host.new) }
     {
-        let inner = grown(state, copied(self.level.alloc, frame)?, names, false)?;
+        let inner = grown(state, copied(self.level.alloc, activation)?, names, false)?;
         self.level.sequence(
             self.level.calls,
             self.level.depth,

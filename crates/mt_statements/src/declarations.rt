@@ -39,18 +39,18 @@ impl<
 > Statements<'a, H, F, G> {
     fn declared(
         &self,
-        frame: &[Address],
+        activation: &[Address],
         state: &mut State,
         host: &mut H,
         kind: VarKind,
         name: &Name,
     ) -> Result<(), Exit>
-        ensures { Evals (spec.declared_by self.now.level.functions.now (parts self.now.level.functions.now H.meaning self.now.level.calls self.now.level.depth) kind name.now None frame.now (state.old, host.old)) result (state.new, host.new) }
+        ensures { Evals (spec.declared_by self.now.level.functions.now (parts self.now.level.functions.now H.meaning self.now.level.calls self.now.level.depth) kind name.now None activation.now (state.old, host.old)) result (state.new, host.new) }
     {
         match kind {
             VarKind::Var => Ok(()),
             VarKind::Let | VarKind::Const => {
-                let named = referent(frame, name.binding);
+                let named = referent(activation, name.binding);
                 Ok(declare(state, &name.text, named, Value::Undefined)?)
             }
         }
@@ -58,39 +58,39 @@ impl<
 
     fn assigned(
         &self,
-        frame: &[Address],
+        activation: &[Address],
         state: &mut State,
         host: &mut H,
         name: &Name,
         e: &Expr,
     ) -> Result<(), Exit>
         requires { Nests H.meaning (rank self.now.level.calls self.now.level.depth) (F.pre self.now.level.expr) (F.post self.now.level.expr) (G.pre self.now.level.stmt) (G.post self.now.level.stmt) }
-        ensures { Evals (spec.declared_by self.now.level.functions.now (parts self.now.level.functions.now H.meaning self.now.level.calls self.now.level.depth) word.Var name.now (Some e.now) frame.now (state.old, host.old)) result (state.new, host.new) }
+        ensures { Evals (spec.declared_by self.now.level.functions.now (parts self.now.level.functions.now H.meaning self.now.level.calls self.now.level.depth) word.Var name.now (Some e.now) activation.now (state.old, host.old)) result (state.new, host.new) }
     {
-        let v = self.level.expr(frame, state, host, e)?;
-        let named = referent(frame, name.binding);
+        let v = self.level.expr(activation, state, host, e)?;
+        let named = referent(activation, name.binding);
         Ok(write_name(self.level.alloc, state, &name.text, named, v)?)
     }
 
     fn initialized(
         &self,
-        frame: &[Address],
+        activation: &[Address],
         state: &mut State,
         host: &mut H,
         name: &Name,
         e: &Expr,
     ) -> Result<(), Exit>
         requires { Nests H.meaning (rank self.now.level.calls self.now.level.depth) (F.pre self.now.level.expr) (F.post self.now.level.expr) (G.pre self.now.level.stmt) (G.post self.now.level.stmt) }
-        ensures { Evals (spec.declared_by self.now.level.functions.now (parts self.now.level.functions.now H.meaning self.now.level.calls self.now.level.depth) word.Let name.now (Some e.now) frame.now (state.old, host.old)) result (state.new, host.new) }
+        ensures { Evals (spec.declared_by self.now.level.functions.now (parts self.now.level.functions.now H.meaning self.now.level.calls self.now.level.depth) word.Let name.now (Some e.now) activation.now (state.old, host.old)) result (state.new, host.new) }
     {
-        let v = self.level.expr(frame, state, host, e)?;
-        let named = referent(frame, name.binding);
+        let v = self.level.expr(activation, state, host, e)?;
+        let named = referent(activation, name.binding);
         Ok(declare(state, &name.text, named, v)?)
     }
 
     fn declared_with(
         &self,
-        frame: &[Address],
+        activation: &[Address],
         state: &mut State,
         host: &mut H,
         kind: VarKind,
@@ -98,46 +98,46 @@ impl<
         e: &Expr,
     ) -> Result<(), Exit>
         requires { Nests H.meaning (rank self.now.level.calls self.now.level.depth) (F.pre self.now.level.expr) (F.post self.now.level.expr) (G.pre self.now.level.stmt) (G.post self.now.level.stmt) }
-        ensures { Evals (spec.declared_by self.now.level.functions.now (parts self.now.level.functions.now H.meaning self.now.level.calls self.now.level.depth) kind name.now (Some e.now) frame.now (state.old, host.old)) result (state.new, host.new) }
+        ensures { Evals (spec.declared_by self.now.level.functions.now (parts self.now.level.functions.now H.meaning self.now.level.calls self.now.level.depth) kind name.now (Some e.now) activation.now (state.old, host.old)) result (state.new, host.new) }
     {
         match kind {
-            VarKind::Var => self.assigned(frame, state, host, name, e),
-            VarKind::Let => self.initialized(frame, state, host, name, e),
-            VarKind::Const => self.initialized(frame, state, host, name, e),
+            VarKind::Var => self.assigned(activation, state, host, name, e),
+            VarKind::Let => self.initialized(activation, state, host, name, e),
+            VarKind::Const => self.initialized(activation, state, host, name, e),
         }
     }
 
     #[tactic(auto, unfolding(mt_eval_meaning::specs::Slots::declaration))]
     fn declaration(
         &self,
-        frame: &[Address],
+        activation: &[Address],
         state: &mut State,
         host: &mut H,
         kind: VarKind,
         decl: &Decl,
     ) -> Result<(), Exit>
         requires { Nests H.meaning (rank self.now.level.calls self.now.level.depth) (F.pre self.now.level.expr) (F.post self.now.level.expr) (G.pre self.now.level.stmt) (G.post self.now.level.stmt) }
-        ensures { Evals (spec.declaration self.now.level.functions.now (parts self.now.level.functions.now H.meaning self.now.level.calls self.now.level.depth) kind frame.now decl.now (state.old, host.old)) result (state.new, host.new) }
+        ensures { Evals (spec.declaration self.now.level.functions.now (parts self.now.level.functions.now H.meaning self.now.level.calls self.now.level.depth) kind activation.now decl.now (state.old, host.old)) result (state.new, host.new) }
     {
         match &decl.value {
-            None => self.declared(frame, state, host, kind, &decl.name),
-            Some(e) => self.declared_with(frame, state, host, kind, &decl.name, e),
+            None => self.declared(activation, state, host, kind, &decl.name),
+            Some(e) => self.declared_with(activation, state, host, kind, &decl.name, e),
         }
     }
 
     fn declarations(
         &self,
-        frame: &[Address],
+        activation: &[Address],
         state: &mut State,
         host: &mut H,
         kind: VarKind,
         mut decls: &[Decl],
     ) -> Result<(), Exit>
         requires { Nests H.meaning (rank self.now.level.calls self.now.level.depth) (F.pre self.now.level.expr) (F.post self.now.level.expr) (G.pre self.now.level.stmt) (G.post self.now.level.stmt) }
-        ensures { Evals (spec.declarations self.now.level.functions.now (parts self.now.level.functions.now H.meaning self.now.level.calls self.now.level.depth) kind decls.entry.now frame.now (state.old, host.old)) result (state.new, host.new) }
+        ensures { Evals (spec.declarations self.now.level.functions.now (parts self.now.level.functions.now H.meaning self.now.level.calls self.now.level.depth) kind decls.entry.now activation.now (state.old, host.old)) result (state.new, host.new) }
     {
         while let [decl, rest @ ..] = decls {
-            self.declaration(frame, state, host, kind, decl)?;
+            self.declaration(activation, state, host, kind, decl)?;
             decls = rest;
         }
         Ok(())
@@ -145,21 +145,21 @@ impl<
 
     pub(crate) fn started(
         &self,
-        frame: &[Address],
+        activation: &[Address],
         state: &mut State,
         host: &mut H,
         start: &ForStart,
     ) -> Result<(), Exit>
         requires { Nests H.meaning (rank self.now.level.calls self.now.level.depth) (F.pre self.now.level.expr) (F.post self.now.level.expr) (G.pre self.now.level.stmt) (G.post self.now.level.stmt) }
-        ensures { Evals (spec.started_by self.now.level.functions.now (parts self.now.level.functions.now H.meaning self.now.level.calls self.now.level.depth) start.now frame.now (state.old, host.old)) result (state.new, host.new) }
+        ensures { Evals (spec.started_by self.now.level.functions.now (parts self.now.level.functions.now H.meaning self.now.level.calls self.now.level.depth) start.now activation.now (state.old, host.old)) result (state.new, host.new) }
     {
         match start {
             ForStart::Absent => Ok(()),
             ForStart::Var(decls) => {
-                self.declarations(frame, state, host, VarKind::Var, decls.items())
+                self.declarations(activation, state, host, VarKind::Var, decls.items())
             }
             ForStart::Expr(e) => {
-                let _value = self.level.expr(frame, state, host, e)?;
+                let _value = self.level.expr(activation, state, host, e)?;
                 Ok(())
             }
         }
@@ -168,16 +168,16 @@ impl<
     #[tactic(auto, unfolding(mt_eval_meaning::specs::Statements::finished))]
     pub(crate) fn var(
         &self,
-        frame: &[Address],
+        activation: &[Address],
         state: &mut State,
         host: &mut H,
         kind: VarKind,
         decls: &[Decl],
     ) -> Result<Completion, Exit>
         requires { Nests H.meaning (rank self.now.level.calls self.now.level.depth) (F.pre self.now.level.expr) (F.post self.now.level.expr) (G.pre self.now.level.stmt) (G.post self.now.level.stmt) }
-        ensures { Evals (statements.finished (spec.declarations self.now.level.functions.now (parts self.now.level.functions.now H.meaning self.now.level.calls self.now.level.depth) kind decls.now frame.now) (state.old, host.old)) result (state.new, host.new) }
+        ensures { Evals (statements.finished (spec.declarations self.now.level.functions.now (parts self.now.level.functions.now H.meaning self.now.level.calls self.now.level.depth) kind decls.now activation.now) (state.old, host.old)) result (state.new, host.new) }
     {
-        self.declarations(frame, state, host, kind, decls)?;
+        self.declarations(activation, state, host, kind, decls)?;
         Ok(Completion::Normal)
     }
 }

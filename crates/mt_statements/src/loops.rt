@@ -37,34 +37,34 @@ impl<
 > Statements<'a, H, F, G> {
     fn tested(
         &self,
-        frame: &[Address],
+        activation: &[Address],
         state: &mut State,
         host: &mut H,
         test: Option<&Expr>,
     ) -> Result<Value, Exit>
         requires { Nests H.meaning (rank self.now.level.calls self.now.level.depth) (F.pre self.now.level.expr) (F.post self.now.level.expr) (G.pre self.now.level.stmt) (G.post self.now.level.stmt) }
-        ensures { Evals (spec.tested_by self.now.level.functions.now (parts self.now.level.functions.now H.meaning self.now.level.calls self.now.level.depth) (option_copied test.entry) frame.now (state.old, host.old)) result (state.new, host.new) }
+        ensures { Evals (spec.tested_by self.now.level.functions.now (parts self.now.level.functions.now H.meaning self.now.level.calls self.now.level.depth) (option_copied test.entry) activation.now (state.old, host.old)) result (state.new, host.new) }
     {
         match test {
             None => Ok(Value::Bool(true)),
-            Some(e) => self.level.expr(frame, state, host, e),
+            Some(e) => self.level.expr(activation, state, host, e),
         }
     }
 
     fn stepped(
         &self,
-        frame: &[Address],
+        activation: &[Address],
         state: &mut State,
         host: &mut H,
         step: Option<&Expr>,
     ) -> Result<(), Exit>
         requires { Nests H.meaning (rank self.now.level.calls self.now.level.depth) (F.pre self.now.level.expr) (F.post self.now.level.expr) (G.pre self.now.level.stmt) (G.post self.now.level.stmt) }
-        ensures { Evals (spec.stepped_by self.now.level.functions.now (parts self.now.level.functions.now H.meaning self.now.level.calls self.now.level.depth) (option_copied step.entry) frame.now (state.old, host.old)) result (state.new, host.new) }
+        ensures { Evals (spec.stepped_by self.now.level.functions.now (parts self.now.level.functions.now H.meaning self.now.level.calls self.now.level.depth) (option_copied step.entry) activation.now (state.old, host.old)) result (state.new, host.new) }
     {
         match step {
             None => Ok(()),
             Some(e) => {
-                let _value = self.level.expr(frame, state, host, e)?;
+                let _value = self.level.expr(activation, state, host, e)?;
                 Ok(())
             }
         }
@@ -72,18 +72,18 @@ impl<
 
     fn after_body(
         &self,
-        frame: &[Address],
+        activation: &[Address],
         state: &mut State,
         host: &mut H,
         step: Option<&Expr>,
         ending: Completion,
     ) -> Result<Option<Completion>, Exit>
         requires { Nests H.meaning (rank self.now.level.calls self.now.level.depth) (F.pre self.now.level.expr) (F.post self.now.level.expr) (G.pre self.now.level.stmt) (G.post self.now.level.stmt) }
-        ensures { Evals (statements.after_body (spec.stepped_by self.now.level.functions.now (parts self.now.level.functions.now H.meaning self.now.level.calls self.now.level.depth) (option_copied step.entry) frame.now) ending (state.old, host.old)) result (state.new, host.new) }
+        ensures { Evals (statements.after_body (spec.stepped_by self.now.level.functions.now (parts self.now.level.functions.now H.meaning self.now.level.calls self.now.level.depth) (option_copied step.entry) activation.now) ending (state.old, host.old)) result (state.new, host.new) }
     {
         match ending {
             Completion::Normal | Completion::Continue => {
-                self.stepped(frame, state, host, step)?;
+                self.stepped(activation, state, host, step)?;
                 Ok(None)
             }
             Completion::Break => Ok(Some(Completion::Normal)),
@@ -94,24 +94,24 @@ impl<
     #[tactic(auto, unfolding(mt_eval_meaning::specs::Statements::turn_body))]
     fn turn_body(
         &self,
-        frame: &[Address],
+        activation: &[Address],
         state: &mut State,
         host: &mut H,
         body: &Stmt,
         step: Option<&Expr>,
     ) -> Result<Option<Completion>, Exit>
         requires { Nests H.meaning (rank self.now.level.calls self.now.level.depth) (F.pre self.now.level.expr) (F.post self.now.level.expr) (G.pre self.now.level.stmt) (G.post self.now.level.stmt) }
-        ensures { Evals (statements.turn_body ((parts self.now.level.functions.now H.meaning self.now.level.calls self.now.level.depth).stmt body.now frame.now) (spec.stepped_by self.now.level.functions.now (parts self.now.level.functions.now H.meaning self.now.level.calls self.now.level.depth) (option_copied step.entry) frame.now) (state.old, host.old)) result (state.new, host.new) }
+        ensures { Evals (statements.turn_body ((parts self.now.level.functions.now H.meaning self.now.level.calls self.now.level.depth).stmt body.now activation.now) (spec.stepped_by self.now.level.functions.now (parts self.now.level.functions.now H.meaning self.now.level.calls self.now.level.depth) (option_copied step.entry) activation.now) (state.old, host.old)) result (state.new, host.new) }
     {
-        let ending = self.stmt(frame, state, host, body)?;
-        self.after_body(frame, state, host, step, ending)
+        let ending = self.stmt(activation, state, host, body)?;
+        self.after_body(activation, state, host, step, ending)
     }
 
     /// One turn of a loop; `None` where another one follows.
     #[tactic(auto, unfolding(mt_eval_meaning::specs::Statements::turn))]
     fn turn(
         &self,
-        frame: &[Address],
+        activation: &[Address],
         state: &mut State,
         host: &mut H,
         test: Option<&Expr>,
@@ -119,11 +119,11 @@ impl<
         step: Option<&Expr>,
     ) -> Result<Option<Completion>, Exit>
         requires { Nests H.meaning (rank self.now.level.calls self.now.level.depth) (F.pre self.now.level.expr) (F.post self.now.level.expr) (G.pre self.now.level.stmt) (G.post self.now.level.stmt) }
-        ensures { Evals (statements.turn (spec.tested_by self.now.level.functions.now (parts self.now.level.functions.now H.meaning self.now.level.calls self.now.level.depth) (option_copied test.entry) frame.now) ((parts self.now.level.functions.now H.meaning self.now.level.calls self.now.level.depth).stmt body.now frame.now) (spec.stepped_by self.now.level.functions.now (parts self.now.level.functions.now H.meaning self.now.level.calls self.now.level.depth) (option_copied step.entry) frame.now) (state.old, host.old)) result (state.new, host.new) }
+        ensures { Evals (statements.turn (spec.tested_by self.now.level.functions.now (parts self.now.level.functions.now H.meaning self.now.level.calls self.now.level.depth) (option_copied test.entry) activation.now) ((parts self.now.level.functions.now H.meaning self.now.level.calls self.now.level.depth).stmt body.now activation.now) (spec.stepped_by self.now.level.functions.now (parts self.now.level.functions.now H.meaning self.now.level.calls self.now.level.depth) (option_copied step.entry) activation.now) (state.old, host.old)) result (state.new, host.new) }
     {
-        let v = self.tested(frame, state, host, test)?;
+        let v = self.tested(activation, state, host, test)?;
         if is_truthy(&v) {
-            return self.turn_body(frame, state, host, body, step);
+            return self.turn_body(activation, state, host, body, step);
         }
         Ok(Some(Completion::Normal))
     }
@@ -131,7 +131,7 @@ impl<
     #[tactic(auto, using(crate::proofs::Turning::turning_on, crate::proofs::Turning::turning_over, crate::proofs::Turning::turning_left, crate::proofs::Turning::turning_stuck))]
     pub(crate) fn turns(
         &self,
-        frame: &[Address],
+        activation: &[Address],
         state: &mut State,
         host: &mut H,
         test: Option<&Expr>,
@@ -139,11 +139,11 @@ impl<
         step: Option<&Expr>,
     ) -> Result<Completion, Exit>
         requires { Nests H.meaning (rank self.now.level.calls self.now.level.depth) (F.pre self.now.level.expr) (F.post self.now.level.expr) (G.pre self.now.level.stmt) (G.post self.now.level.stmt) }
-        ensures { Evals (statements.loop (spec.tested_by self.now.level.functions.now (parts self.now.level.functions.now H.meaning self.now.level.calls self.now.level.depth) (option_copied test.entry) frame.now) ((parts self.now.level.functions.now H.meaning self.now.level.calls self.now.level.depth).stmt body.now frame.now) (spec.stepped_by self.now.level.functions.now (parts self.now.level.functions.now H.meaning self.now.level.calls self.now.level.depth) (option_copied step.entry) frame.now) (state.old, host.old)) result (state.new, host.new) }
+        ensures { Evals (statements.loop (spec.tested_by self.now.level.functions.now (parts self.now.level.functions.now H.meaning self.now.level.calls self.now.level.depth) (option_copied test.entry) activation.now) ((parts self.now.level.functions.now H.meaning self.now.level.calls self.now.level.depth).stmt body.now activation.now) (spec.stepped_by self.now.level.functions.now (parts self.now.level.functions.now H.meaning self.now.level.calls self.now.level.depth) (option_copied step.entry) activation.now) (state.old, host.old)) result (state.new, host.new) }
     {
         loop {
             let before = state.budget;
-            if let Some(ending) = self.turn(frame, state, host, test, body, step)? {
+            if let Some(ending) = self.turn(activation, state, host, test, body, step)? {
                 return Ok(ending);
             }
             if state.budget >= before {
@@ -155,7 +155,7 @@ impl<
     #[tactic(auto, unfolding(mt_eval_meaning::specs::Statements::starting))]
     pub(crate) fn for_loop(
         &self,
-        frame: &[Address],
+        activation: &[Address],
         state: &mut State,
         host: &mut H,
         start: &ForStart,
@@ -164,9 +164,9 @@ impl<
         step: Option<&Expr>,
     ) -> Result<Completion, Exit>
         requires { Nests H.meaning (rank self.now.level.calls self.now.level.depth) (F.pre self.now.level.expr) (F.post self.now.level.expr) (G.pre self.now.level.stmt) (G.post self.now.level.stmt) }
-        ensures { Evals (statements.starting (spec.started_by self.now.level.functions.now (parts self.now.level.functions.now H.meaning self.now.level.calls self.now.level.depth) start.now frame.now) (statements.loop (spec.tested_by self.now.level.functions.now (parts self.now.level.functions.now H.meaning self.now.level.calls self.now.level.depth) (option_copied test.entry) frame.now) ((parts self.now.level.functions.now H.meaning self.now.level.calls self.now.level.depth).stmt body.now frame.now) (spec.stepped_by self.now.level.functions.now (parts self.now.level.functions.now H.meaning self.now.level.calls self.now.level.depth) (option_copied step.entry) frame.now)) (state.old, host.old)) result (state.new, host.new) }
+        ensures { Evals (statements.starting (spec.started_by self.now.level.functions.now (parts self.now.level.functions.now H.meaning self.now.level.calls self.now.level.depth) start.now activation.now) (statements.loop (spec.tested_by self.now.level.functions.now (parts self.now.level.functions.now H.meaning self.now.level.calls self.now.level.depth) (option_copied test.entry) activation.now) ((parts self.now.level.functions.now H.meaning self.now.level.calls self.now.level.depth).stmt body.now activation.now) (spec.stepped_by self.now.level.functions.now (parts self.now.level.functions.now H.meaning self.now.level.calls self.now.level.depth) (option_copied step.entry) activation.now)) (state.old, host.old)) result (state.new, host.new) }
     {
-        self.started(frame, state, host, start)?;
-        self.turns(frame, state, host, test, body, step)
+        self.started(activation, state, host, start)?;
+        self.turns(activation, state, host, test, body, step)
     }
 }

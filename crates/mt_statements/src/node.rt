@@ -36,22 +36,29 @@ impl<
 > Statements<'a, H, F, G> {
     fn form(
         &self,
-        frame: &[Address],
+        activation: &[Address],
         state: &mut State,
         host: &mut H,
         t: &Stmt,
     ) -> Result<Completion, Exit>
         requires { Nests H.meaning (rank self.now.level.calls self.now.level.depth) (F.pre self.now.level.expr) (F.post self.now.level.expr) (G.pre self.now.level.stmt) (G.post self.now.level.stmt) }
-        ensures { Evals (spec.stmt_at self.now.level.functions.now (parts self.now.level.functions.now H.meaning self.now.level.calls self.now.level.depth) (out-Stmt t.now) frame.now (state.old, host.old)) result (state.new, host.new) }
+        ensures { Evals (spec.stmt_at self.now.level.functions.now (parts self.now.level.functions.now H.meaning self.now.level.calls self.now.level.depth) (out-Stmt t.now) activation.now (state.old, host.old)) result (state.new, host.new) }
     {
         match t {
-            Stmt::Expr(e) => self.expression(frame, state, host, e),
-            Stmt::Var(kind, decls) => self.var(frame, state, host, *kind, decls.items()),
-            Stmt::If(test, a, b) => self.choice(frame, state, host, test, a.get(), b.as_ref()),
-            Stmt::While(test, body) => self.turns(frame, state, host, Some(test), body.get(), None),
+            Stmt::Expr(e) => self.expression(activation, state, host, e),
+            Stmt::Var(kind, decls) => self.var(activation, state, host, *kind, decls.items()),
+            Stmt::If(test, a, b) => self.choice(activation, state, host, test, a.get(), b.as_ref()),
+            Stmt::While(test, body) => self.turns(
+                activation,
+                state,
+                host,
+                Some(test),
+                body.get(),
+                None,
+            ),
             Stmt::For(start, test, step, body) => {
                 self.for_loop(
-                    frame,
+                    activation,
                     state,
                     host,
                     start,
@@ -60,12 +67,12 @@ impl<
                     step.as_ref(),
                 )
             }
-            Stmt::Return(e) => self.returned(frame, state, host, e.as_ref()),
+            Stmt::Return(e) => self.returned(activation, state, host, e.as_ref()),
             Stmt::Break => Ok(Completion::Break),
             Stmt::Continue => Ok(Completion::Continue),
-            Stmt::Throw(e) => self.thrown(frame, state, host, e),
-            Stmt::Try(body, t) => self.attempt(frame, state, host, body.get(), t.get()),
-            Stmt::Block(names, items) => self.block(frame, state, host, *names, items.items()),
+            Stmt::Throw(e) => self.thrown(activation, state, host, e),
+            Stmt::Try(body, t) => self.attempt(activation, state, host, body.get(), t.get()),
+            Stmt::Block(names, items) => self.block(activation, state, host, *names, items.items()),
             Stmt::Empty => Ok(Completion::Normal),
         }
     }
@@ -77,15 +84,15 @@ impl<
     #[tactic(auto, unfolding(mt_eval_meaning::specs::Slots::stmt))]
     pub fn node(
         &self,
-        frame: &[Address],
+        activation: &[Address],
         state: &mut State,
         host: &mut H,
         t: &Stmt,
     ) -> Result<Completion, Exit>
         requires { Nests H.meaning (rank self.now.level.calls self.now.level.depth) (F.pre self.now.level.expr) (F.post self.now.level.expr) (G.pre self.now.level.stmt) (G.post self.now.level.stmt) }
-        ensures { Evals (spec.stmt self.now.level.functions.now (parts self.now.level.functions.now H.meaning self.now.level.calls self.now.level.depth) t.now frame.now (state.old, host.old)) result (state.new, host.new) }
+        ensures { Evals (spec.stmt self.now.level.functions.now (parts self.now.level.functions.now H.meaning self.now.level.calls self.now.level.depth) t.now activation.now (state.old, host.old)) result (state.new, host.new) }
     {
         spend(state, 0)?;
-        self.form(frame, state, host, t)
+        self.form(activation, state, host, t)
     }
 }

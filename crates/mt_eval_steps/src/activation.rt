@@ -1,7 +1,7 @@
 ghost use Rattle.std.specs.Prelude.{◌≡◌, IfOk, Some, zero, suc};
 ghost use Rattle.mt_eval_meaning.specs.Runs.{Evals};
 ghost use Rattle.mt_eval_steps.specs.Contents as contents;
-ghost use Rattle.mt_eval_meaning.specs.Frames as spec;
+ghost use Rattle.mt_eval_meaning.specs.Activations as spec;
 
 use crate::add_cell;
 use mt_eval_meaning::{Binding, Exit, Referent, State};
@@ -9,12 +9,12 @@ use mt_tree::{Buffer, NoMemory};
 use mt_value::{Address, Cell, Value};
 use std::alloc::Global;
 
-/// What a name stands for in a frame. Takes no memory.
-pub fn referent(frame: &[Address], binding: Binding) -> Referent
-    ensures { result ≡ spec.referent frame.now binding }
+/// What a name stands for in an activation. Takes no memory.
+pub fn referent(activation: &[Address], binding: Binding) -> Referent
+    ensures { result ≡ spec.referent activation.now binding }
 {
     match binding {
-        Binding::Slot { slot, constant } => match frame.get(slot) {
+        Binding::Slot { slot, constant } => match activation.get(slot) {
             Some(at) => Referent::Variable {
                 address: *at,
                 constant,
@@ -27,15 +27,15 @@ pub fn referent(frame: &[Address], binding: Binding) -> Referent
     }
 }
 
-/// A frame with the same addresses, which can grow.
+/// An activation with the same addresses, which can grow.
 ///
 /// # Errors
 /// `NoMemory`.
-pub fn copied(alloc: Global, frame: &[Address]) -> Result<Buffer<Address>, NoMemory>
-    ensures { IfOk result (λ made. made ≡ frame.now) }
+pub fn copied(alloc: Global, activation: &[Address]) -> Result<Buffer<Address>, NoMemory>
+    ensures { IfOk result (λ made. made ≡ activation.now) }
 {
     let mut made = Buffer::new(alloc);
-    for at in frame {
+    for at in activation {
         made.push(*at)?;
     }
     Ok(made)
@@ -51,40 +51,40 @@ fn initial(declared: bool) -> Option<Value>
     }
 }
 
-/// A frame with so many new variables behind it, which are undefined where they are declared.
+/// An activation with so many new variables behind it, which are undefined where they are declared.
 ///
 /// # Errors
 /// `NoMemory`.
 #[tactic(auto, using(crate::proofs::Growth::grown_step, crate::proofs::Growth::grown_left, crate::proofs::Growth::grown_stop))]
 pub fn grown(
     state: &mut State,
-    mut frame: Buffer<Address>,
+    mut activation: Buffer<Address>,
     count: usize,
     declared: bool,
 ) -> Result<Buffer<Address>, Exit>
-    ensures { Evals (spec.grown count (contents.initial declared) frame state.old) result state.new }
+    ensures { Evals (spec.grown count (contents.initial declared) activation state.old) result state.new }
 {
     let mut left = count;
     while left > 0 {
         let at = add_cell(state, Cell::Variable(initial(declared)))?;
-        frame.push(at)?;
+        activation.push(at)?;
         left -= 1;
     }
-    Ok(frame)
+    Ok(activation)
 }
 
-/// A frame with one new variable behind it, which has a value.
+/// An activation with one new variable behind it, which has a value.
 ///
 /// # Errors
 /// `NoMemory`.
 pub fn pushed(
     state: &mut State,
-    mut frame: Buffer<Address>,
+    mut activation: Buffer<Address>,
     value: Value,
 ) -> Result<Buffer<Address>, Exit>
-    ensures { Evals (spec.grown (suc zero) (Some value) frame state.old) result state.new }
+    ensures { Evals (spec.grown (suc zero) (Some value) activation state.old) result state.new }
 {
     let at = add_cell(state, Cell::Variable(Some(value)))?;
-    frame.push(at)?;
-    Ok(frame)
+    activation.push(at)?;
+    Ok(activation)
 }
