@@ -8,14 +8,14 @@ use Rattle.mt_ops.specs.Texts.{is_plain}
 use Rattle.mt_value.specs.Names.{is_same}
 
 -- two tests of which each implies the other
-alike : (a b : Bool) → (a ≡ true → b ≡ true) → (b ≡ true → a ≡ true) → a ≡ b
-alike true true f g = refl
-alike true false f g = sym (f refl)
-alike false true f g = g refl
-alike false false f g = refl
+same_truth : (a b : Bool) → (a ≡ true → b ≡ true) → (b ≡ true → a ≡ true) → a ≡ b
+same_truth true true f g = refl
+same_truth true false f g = sym (f refl)
+same_truth false true f g = g refl
+same_truth false false f g = refl
 
 -- a test of a name against a text of ASCII
 pub same_plain : (name text : List ℕ) (r : Bool) → is_plain text ≡ true → (IsTrue r ↔ (name ≡ chars text)) → r ≡ is_same name text
 same_plain name text r ascii h =
     let decides = bytes_eq-Decides name text in
-    alike r (is_same name text) (λ t. decides.1 (h.0 t ∙ plain text ascii)) (λ t. h.1 (decides.0 t ∙ sym (plain text ascii)))
+    same_truth r (is_same name text) (λ t. decides.1 (h.0 t ∙ plain text ascii)) (λ t. h.1 (decides.0 t ∙ sym (plain text ascii)))

@@ -17,7 +17,7 @@ use Rattle.mt_value.specs.declared.value.Value.TheVariants as value
 abbrev pub error_properties : ErrorKind → List Property
 error_properties e = text_property (codes "name") (error_name e) ∷ text_property (codes "message") (error_message e) ∷ []
 
--- the outcome, where the store has so many cells: a cell that is added goes behind them
+-- the outcome, where the store has that many cells: a cell that is added goes behind them
 abbrev pub outcome_of : ℕ → Result Made ErrorKind → Done
 outcome_of cells (Ok (made.Value v)) = done.Value v
 outcome_of cells (Ok (made.Array items)) = done.Value (value.Arr cells)
@@ -34,7 +34,7 @@ added_of (Err e) = object (error_properties e) ∷ []
 abbrev pub ended : Result Made ErrorKind → List Cell → Done × List Cell
 ended r store = (outcome_of (length store) r, store ++ map added_cell (added_of r))
 
--- the same of a call that takes so many steps before its work, with the steps that are left; where they are more than what
+-- the same of a call that takes a number of steps before its work, with the steps that are left; where they are more than what
 -- is left, the job stops and nothing is taken
 abbrev pub ended_for : ℕ → Result Made ErrorKind → List Cell → ℕ → Done × List Cell × ℕ
 ended_for steps r store budget =

@@ -137,7 +137,7 @@ fn cost(base: &Value, key: &Text, arguments: &[Value], store: &Store) -> u64
     }
 }
 
-/// Takes the steps where so many are left, and else none.
+/// Takes the steps where that many are left, and else none.
 fn takes(budget: &mut Budget, steps: u64) -> bool
     ensures taken { result ≡ nat_le steps budget.old.left }
     ensures left { budget.new.left ≡ (if nat_le steps budget.old.left then budget.old.left - steps else budget.old.left) }

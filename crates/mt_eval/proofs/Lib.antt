@@ -1,3 +1,3 @@
 pub mod Descent
 pub mod Endings
-mod Alike
+mod ByNames

@@ -76,7 +76,7 @@ fn stmt_to<H: Host>(
 /// Runs the code of a tier.
 ///
 /// # Errors
-/// As the code says, and `NoMemory`.
+/// `Throw` with the value that the code throws, `Stop` with what stops the job, and `NoMemory`.
 #[tactic(auto, unfolding(mt_eval_meaning::specs::Slots::unit))]
 pub fn run_unit<H: Host>(
     alloc: Global,
@@ -104,7 +104,7 @@ pub fn run_unit<H: Host>(
 /// Calls a value; the call itself isn't counted.
 ///
 /// # Errors
-/// As the code says, and `NoMemory`.
+/// `Throw` with the value that the code throws, `Stop` with what stops the job, and `NoMemory`.
 #[tactic(auto, unfolding(mt_eval_meaning::specs::Slots::called))]
 pub fn run_call<H: Host>(
     alloc: Global,

@@ -1,4 +1,4 @@
--- Data are built alike on what is seen of a store.
+-- Data are built the same on what is seen of a store.
 use Rattle.std.proofs.Common.{◌≡◌, ℕ, List, [], ◌∷◌, ◌++◌, length, map, refl, sym, ap, ap₂, ◌∙◌, subst}
 use Rattle.mt_eval_meaning.specs.States.{Numbered}
 use Rattle.mt_eval_agreement.proofs.Keeps.{Keeps, keep_spend}
@@ -20,37 +20,37 @@ use Rattle.mt_value.specs.declared.value.Value.{Value}
 use Rattle.mt_value.specs.declared.value.Value.TheVariants as value
 
 module _ (table : List Numbered) where
-  pub record BuildsAlike {A : Type 0} (b : Built A) : Type 0 where
+  pub record BuildsSame {A : Type 0} (b : Built A) : Type 0 where
     pub result : (store : List Cell) → (b (seen store)).0 ≡ (b store).0
     pub cells : (store : List Cell) → (b (seen store)).1 ≡ seen (b store).1
     pub functions : (store : List Cell) → SameFunctions table store (b store).1
 
-  plain_alike : {A : Type 0} (x : A) → BuildsAlike (built_plain x)
-  plain_alike x = record { result = λ store. refl; cells = λ store. refl; functions = same_functions table }
+  plain_same : {A : Type 0} (x : A) → BuildsSame (built_plain x)
+  plain_same x = record { result = λ store. refl; cells = λ store. refl; functions = same_functions table }
 
-  cons_alike : {A : Type 0} (b : Built A) (bs : List (Built A)) → BuildsAlike b → BuildsAlike (built_all bs) → BuildsAlike (built_all (b ∷ bs))
-  cons_alike {A = A} b bs h k = record {
+  cons_same : {A : Type 0} (b : Built A) (bs : List (Built A)) → BuildsSame b → BuildsSame (built_all bs) → BuildsSame (built_all (b ∷ bs))
+  cons_same {A = A} b bs h k = record {
     result = λ store. ap₂ (λ (x : A) (xs : List A). x ∷ xs) (h.result store) (ap (λ (z : List Cell). (built_all bs z).0) (h.cells store) ∙ k.result (b store).1);
     cells = λ store. ap (λ (z : List Cell). (built_all bs z).1) (h.cells store) ∙ k.cells (b store).1;
     functions = λ store. functions_both table store (b store).1 (built_all bs (b store).1).1 (h.functions store) (k.functions (b store).1);
   }
 
-  array_alike : (items : Built (List Value)) → BuildsAlike items → BuildsAlike (built_array items)
-  array_alike items h = record {
+  array_same : (items : Built (List Value)) → BuildsSame items → BuildsSame (built_array items)
+  array_same items h = record {
     result = λ store. ap (λ (z : List Cell). value.Arr (length z)) (h.cells store) ∙ ap value.Arr (seen_length (items store).1);
     cells = λ store. ap₂ (λ (z : List Cell) (vs : List Value). z ++ cell.Arr vs ∷ []) (h.cells store) (h.result store) ∙ sym (seen_added (items store).1 (cell.Arr (items store).0) tt);
     functions = λ store. functions_both table store (items store).1 ((items store).1 ++ cell.Arr (items store).0 ∷ []) (h.functions store) (functions_added table (items store).1 (cell.Arr (items store).0) tt);
   }
 
-  object_alike : (ps : Built (List Property)) → BuildsAlike ps → BuildsAlike (built_object ps)
-  object_alike ps h = record {
+  object_same : (ps : Built (List Property)) → BuildsSame ps → BuildsSame (built_object ps)
+  object_same ps h = record {
     result = λ store. ap (λ (z : List Cell). value.Obj (length z)) (h.cells store) ∙ ap value.Obj (seen_length (ps store).1);
     cells = λ store. ap₂ (λ (z : List Cell) (xs : List Property). z ++ cell.Obj xs ∷ []) (h.cells store) (h.result store) ∙ sym (seen_added (ps store).1 (cell.Obj (ps store).0) tt);
     functions = λ store. functions_both table store (ps store).1 ((ps store).1 ++ cell.Obj (ps store).0 ∷ []) (h.functions store) (functions_added table (ps store).1 (cell.Obj (ps store).0) tt);
   }
 
-  named_alike : (name : List ℕ) (v : Built Value) → BuildsAlike v → BuildsAlike (entry_step (record { name = name; value = v }))
-  named_alike name v h = record {
+  named_same : (name : List ℕ) (v : Built Value) → BuildsSame v → BuildsSame (entry_step (record { name = name; value = v }))
+  named_same name v h = record {
     result = λ store. ap (λ (w : Value). record { name = name; value = w }) (h.result store);
     cells = h.cells;
     functions = h.functions;
@@ -61,46 +61,46 @@ module _ (table : List Numbered) where
   build_entry : Entry → Built Property
   build_entry = fold-Entry (Built Value) (Built Property) data_step entry_step
 
-  abbrev IsAlike : Data → Type 0
-  IsAlike d = BuildsAlike (build d)
+  abbrev IsBuiltSame : Data → Type 0
+  IsBuiltSame d = BuildsSame (build d)
 
-  abbrev IsEntryAlike : Entry → Type 0
-  IsEntryAlike e = BuildsAlike (build_entry e)
+  abbrev IsEntryBuiltSame : Entry → Type 0
+  IsEntryBuiltSame e = BuildsSame (build_entry e)
 
-  abbrev Alike : Type 0
-  Alike = (d : Data) × IsAlike d
+  abbrev SameData : Type 0
+  SameData = (d : Data) × IsBuiltSame d
 
-  abbrev AlikeEntry : Type 0
-  AlikeEntry = (e : Entry) × IsEntryAlike e
+  abbrev SameEntry : Type 0
+  SameEntry = (e : Entry) × IsEntryBuiltSame e
 
-  items_alike : (ds : List Alike) → BuildsAlike (built_all (map build (map (λ (d : Alike). d.0) ds)))
-  items_alike [] = plain_alike []
-  items_alike (d ∷ ds) = cons_alike (build d.0) (map build (map (λ (d : Alike). d.0) ds)) d.1 (items_alike ds)
+  items_same : (ds : List SameData) → BuildsSame (built_all (map build (map (λ (d : SameData). d.0) ds)))
+  items_same [] = plain_same []
+  items_same (d ∷ ds) = cons_same (build d.0) (map build (map (λ (d : SameData). d.0) ds)) d.1 (items_same ds)
 
-  entries_alike : (es : List AlikeEntry) → BuildsAlike (built_all (map build_entry (map (λ (e : AlikeEntry). e.0) es)))
-  entries_alike [] = plain_alike []
-  entries_alike (e ∷ es) = cons_alike (build_entry e.0) (map build_entry (map (λ (e : AlikeEntry). e.0) es)) e.1 (entries_alike es)
+  entries_same : (es : List SameEntry) → BuildsSame (built_all (map build_entry (map (λ (e : SameEntry). e.0) es)))
+  entries_same [] = plain_same []
+  entries_same (e ∷ es) = cons_same (build_entry e.0) (map build_entry (map (λ (e : SameEntry). e.0) es)) e.1 (entries_same es)
 
-  layer_alike : (x : Data-F Data Entry) → BuildsAlike (data_step (map-Data Data Entry (Built Value) (Built Property) build build_entry x)) → IsAlike (roll-Data x)
+  layer_same : (x : Data-F Data Entry) → BuildsSame (data_step (map-Data Data Entry (Built Value) (Built Property) build build_entry x)) → IsBuiltSame (roll-Data x)
   unfolding build build_entry
-  layer_alike x h = subst (λ (b : Built Value). BuildsAlike b) (sym (fold-roll-Data (Built Value) (Built Property) data_step entry_step x)) h
+  layer_same x h = subst (λ (b : Built Value). BuildsSame b) (sym (fold-roll-Data (Built Value) (Built Property) data_step entry_step x)) h
 
-  by_layer : (y : Data-F Alike AlikeEntry) → IsAlike (roll-Data (map-Data Alike AlikeEntry Data Entry (λ d. d.0) (λ e. e.0) y))
-  by_layer Data-F.Undefined = layer_alike Data-F.Undefined (plain_alike value.Undefined)
-  by_layer Data-F.Null = layer_alike Data-F.Null (plain_alike value.Null)
-  by_layer (Data-F.Bool b) = layer_alike (Data-F.Bool b) (plain_alike (value.Bool b))
-  by_layer (Data-F.Num n) = layer_alike (Data-F.Num n) (plain_alike (value.Num n))
-  by_layer (Data-F.Text text) = layer_alike (Data-F.Text text) (plain_alike (value.Text text))
-  by_layer (Data-F.Arr ds) = layer_alike (Data-F.Arr (map (λ d. d.0) ds)) (array_alike (built_all (map build (map (λ (d : Alike). d.0) ds))) (items_alike ds))
-  by_layer (Data-F.Obj es) = layer_alike (Data-F.Obj (map (λ e. e.0) es)) (object_alike (built_all (map build_entry (map (λ (e : AlikeEntry). e.0) es))) (entries_alike es))
-  by_layer (Data-F.Svc name) = layer_alike (Data-F.Svc name) (plain_alike (value.Svc name))
+  by_layer : (y : Data-F SameData SameEntry) → IsBuiltSame (roll-Data (map-Data SameData SameEntry Data Entry (λ d. d.0) (λ e. e.0) y))
+  by_layer Data-F.Undefined = layer_same Data-F.Undefined (plain_same value.Undefined)
+  by_layer Data-F.Null = layer_same Data-F.Null (plain_same value.Null)
+  by_layer (Data-F.Bool b) = layer_same (Data-F.Bool b) (plain_same (value.Bool b))
+  by_layer (Data-F.Num n) = layer_same (Data-F.Num n) (plain_same (value.Num n))
+  by_layer (Data-F.Text text) = layer_same (Data-F.Text text) (plain_same (value.Text text))
+  by_layer (Data-F.Arr ds) = layer_same (Data-F.Arr (map (λ d. d.0) ds)) (array_same (built_all (map build (map (λ (d : SameData). d.0) ds))) (items_same ds))
+  by_layer (Data-F.Obj es) = layer_same (Data-F.Obj (map (λ e. e.0) es)) (object_same (built_all (map build_entry (map (λ (e : SameEntry). e.0) es))) (entries_same es))
+  by_layer (Data-F.Svc name) = layer_same (Data-F.Svc name) (plain_same (value.Svc name))
 
-  entry_alike : (x : Entry-F Data Entry) → IsAlike x.value → IsEntryAlike (roll-Entry x)
+  entry_same : (x : Entry-F Data Entry) → IsBuiltSame x.value → IsEntryBuiltSame (roll-Entry x)
   unfolding build build_entry
-  entry_alike x h = subst (λ (b : Built Property). BuildsAlike b) (sym (fold-roll-Entry (Built Value) (Built Property) data_step entry_step x)) (named_alike x.name (build x.value) h)
+  entry_same x h = subst (λ (b : Built Property). BuildsSame b) (sym (fold-roll-Entry (Built Value) (Built Property) data_step entry_step x)) (named_same x.name (build x.value) h)
 
-  builds : (d : Data) → IsAlike d
-  builds = ind-Data IsAlike IsEntryAlike (λ x y is. subst (λ z. IsAlike (roll-Data z)) is (by_layer y)) (λ x y is. subst (λ z. IsEntryAlike (roll-Entry z)) is (entry_alike (map-Entry Alike AlikeEntry Data Entry (λ d. d.0) (λ e. e.0) y) y.value.1))
+  builds : (d : Data) → IsBuiltSame d
+  builds = ind-Data IsBuiltSame IsEntryBuiltSame (λ x y is. subst (λ z. IsBuiltSame (roll-Data z)) is (by_layer y)) (λ x y is. subst (λ z. IsEntryBuiltSame (roll-Entry z)) is (entry_same (map-Entry SameData SameEntry Data Entry (λ d. d.0) (λ e. e.0) y) y.value.1))
 
   keep_build : (d : Data) → Keeps table (build_cells d)
   unfolding build_cells

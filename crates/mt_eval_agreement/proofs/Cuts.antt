@@ -127,23 +127,23 @@ pub kept_twice : (free some : Names) (env : Environment) → ((y : List ℕ) →
 kept_twice free some [] h = refl
 kept_twice free some (e ∷ env) h = kept_twice_at free some env e (has free e.name) (has some e.name) refl refl h (λ f s i. kept_twice f s env i)
 
--- ---- environments that agree on what is free, but for some names, which come next
+-- ---- environments that coincide on what is free, but for some names, which come next
 
-pub record Alike (names free : Names) (env env' : Environment) : Type 0 where
+pub record Coincide (names free : Names) (env env' : Environment) : Type 0 where
   pub cuts : (some : Names) → ((y : List ℕ) → has some y ≡ true → (has free y ≡ true) × (has names y ≡ false)) → kept some env' ≡ kept some env
 
-pub alike_same : (names free : Names) (env : Environment) → Alike names free env env
-alike_same names free env = record { cuts = λ some h. refl }
+pub coincide_same : (names free : Names) (env : Environment) → Coincide names free env env
+coincide_same names free env = record { cuts = λ some h. refl }
 
-pub alike_kept : (free : Names) (env : Environment) → Alike [] free env (kept free env)
-alike_kept free env = record { cuts = λ some h. kept_twice free some env (λ y k. (h y k).0) }
+pub coincide_kept : (free : Names) (env : Environment) → Coincide [] free env (kept free env)
+coincide_kept free env = record { cuts = λ some h. kept_twice free some env (λ y k. (h y k).0) }
 
 one_name : (free : Names) (x y : List ℕ) (names : Names) (b : Bool) → is_same y x ≡ b → has free x ≡ true → has names x ≡ false → (b || false) ≡ true → (has free y ≡ true) × (has names y ≡ false)
 one_name free x y names true e h n k = let same = same_name y x e in (ap (has free) same ∙ h, ap (has names) same ∙ n)
 one_name free x y names false e h n k = cc
 
-pub alike_find : (names free : Names) (env env' : Environment) (x : List ℕ) → Alike names free env env' → has free x ≡ true → has names x ≡ false → find x env' ≡ find x env
-alike_find names free env env' x a h n =
+pub coincide_find : (names free : Names) (env env' : Environment) (x : List ℕ) → Coincide names free env env' → has free x ≡ true → has names x ≡ false → find x env' ≡ find x env
+coincide_find names free env env' x a h n =
     let here : has (x ∷ []) x ≡ true = has_here x [] x (name_same x) in
     sym (find_kept (x ∷ []) env' x here) ∙ (ap (λ (es : Environment). find x es) (a.cuts (x ∷ []) (λ y k. one_name free x y names (is_same y x) refl h n k)) ∙ find_kept (x ∷ []) env x here)
 
@@ -151,37 +151,37 @@ apart : (x y : List ℕ) (names : Names) (b : Bool) → is_same y x ≡ b → ha
 apart x y names true e n k = let clash : (true || false) ≡ false = sym (ap (λ b. b || false) e) ∙ n in cc
 apart x y names false e n k = k
 
-more_at : (b : Binding) (names free some : Names) (env env' : Environment) → Alike (b.name ∷ names) free env env' → ((y : List ℕ) → has some y ≡ true → (has free y ≡ true) × (has names y ≡ false)) → (c : Bool) → has some b.name ≡ c
+more_at : (b : Binding) (names free some : Names) (env env' : Environment) → Coincide (b.name ∷ names) free env env' → ((y : List ℕ) → has some y ≡ true → (has free y ≡ true) × (has names y ≡ false)) → (c : Bool) → has some b.name ≡ c
     → cond {A = Environment} c (b ∷ kept (without (b.name ∷ []) some) env') (kept some env') ≡ cond {A = Environment} c (b ∷ kept (without (b.name ∷ []) some) env) (kept some env)
 more_at b names free some env env' g h true p =
     ap (λ (es : Environment). b ∷ es) (g.cuts (without (b.name ∷ []) some) (λ y k. let o = only_without (b.name ∷ []) some y k in let i = h y o.0 in (i.0, apart b.name y names (is_same y b.name) refl o.1 i.1)))
 more_at b names free some env env' g h false p = g.cuts some (λ y k. let i = h y k in (i.0, apart b.name y names (is_same y b.name) refl (other b.name y some (is_same y b.name) refl k p) i.1))
 
 -- under one more binding
-pub alike_more : (b : Binding) (names free : Names) (env env' : Environment) → Alike (b.name ∷ names) free env env' → Alike names free (b ∷ env) (b ∷ env')
-alike_more b names free env env' g = record { cuts = λ some h. more_at b names free some env env' g h (has some b.name) refl }
+pub coincide_more : (b : Binding) (names free : Names) (env env' : Environment) → Coincide (b.name ∷ names) free env env' → Coincide names free (b ∷ env) (b ∷ env')
+coincide_more b names free env env' g = record { cuts = λ some h. more_at b names free some env env' g h (has some b.name) refl }
 
 -- ---- agreement on less
 
-pub alike_less : (names free less : Names) (env env' : Environment) → ((y : List ℕ) → has less y ≡ true → has free y ≡ true) → Alike names free env env' → Alike names less env env'
-alike_less names free less env env' h a = record { cuts = λ some k. a.cuts some (λ y i. let j = k y i in (h y j.0, j.1)) }
+pub coincide_less : (names free less : Names) (env env' : Environment) → ((y : List ℕ) → has less y ≡ true → has free y ≡ true) → Coincide names free env env' → Coincide names less env env'
+coincide_less names free less env env' h a = record { cuts = λ some k. a.cuts some (λ y i. let j = k y i in (h y j.0, j.1)) }
 
-pub alike_left : (xs ys : Names) (env env' : Environment) → Alike [] (xs ++ ys) env env' → Alike [] xs env env'
-alike_left xs ys env env' a = alike_less [] (xs ++ ys) xs env env' (λ y h. has_left xs ys y h) a
+pub coincide_left : (xs ys : Names) (env env' : Environment) → Coincide [] (xs ++ ys) env env' → Coincide [] xs env env'
+coincide_left xs ys env env' a = coincide_less [] (xs ++ ys) xs env env' (λ y h. has_left xs ys y h) a
 
-pub alike_right : (xs ys : Names) (env env' : Environment) → Alike [] (xs ++ ys) env env' → Alike [] ys env env'
-alike_right xs ys env env' a = alike_less [] (xs ++ ys) ys env env' (λ y h. has_right xs ys y h) a
+pub coincide_right : (xs ys : Names) (env env' : Environment) → Coincide [] (xs ++ ys) env env' → Coincide [] ys env env'
+coincide_right xs ys env env' a = coincide_less [] (xs ++ ys) ys env env' (λ y h. has_right xs ys y h) a
 
 -- names that come next may be any
-pub alike_names : (names more free : Names) (env env' : Environment) → ((y : List ℕ) → has more y ≡ false → has names y ≡ false) → Alike names free env env' → Alike more free env env'
-alike_names names more free env env' h a = record { cuts = λ some k. a.cuts some (λ y i. let j = k y i in (j.0, h y j.1)) }
+pub coincide_names : (names more free : Names) (env env' : Environment) → ((y : List ℕ) → has more y ≡ false → has names y ≡ false) → Coincide names free env env' → Coincide more free env env'
+coincide_names names more free env env' h a = record { cuts = λ some k. a.cuts some (λ y i. let j = k y i in (j.0, h y j.1)) }
 
-pub alike_without : (some free : Names) (env env' : Environment) → Alike [] (without some free) env env' → Alike some free env env'
-alike_without some free env env' a = record { cuts = λ names k. a.cuts names (λ y i. let j = k y i in (has_without some free y j.1 j.0, refl)) }
+pub coincide_without : (some free : Names) (env env' : Environment) → Coincide [] (without some free) env env' → Coincide some free env env'
+coincide_without some free env env' a = record { cuts = λ names k. a.cuts names (λ y i. let j = k y i in (has_without some free y j.1 j.0, refl)) }
 
 -- the names that come next may count as free
-pub alike_bound : (names free : Names) (env env' : Environment) → Alike names free env env' → Alike names (free ++ names) env env'
-alike_bound names free env env' a = record { cuts = λ some k. a.cuts some (λ y i. let j = k y i in (has_split free names y j.0 j.1, j.1)) }
+pub coincide_bound : (names free : Names) (env env' : Environment) → Coincide names free env env' → Coincide names (free ++ names) env env'
+coincide_bound names free env env' a = record { cuts = λ some k. a.cuts some (λ y i. let j = k y i in (has_split free names y j.0 j.1, j.1)) }
 
 -- under a whole scope
 abbrev pub names_in : Environment → Names
@@ -205,8 +205,8 @@ first_last x xs ys y h =
     in_none : (xs ys : Names) (y : List ℕ) → has xs y ≡ false → has ys y ≡ false → has (xs ++ ys) y ≡ false
     in_none xs ys y h k = false_by (has (xs ++ ys) y) (λ e. clash (has xs y) (has_split xs ys y e k) h)
 
-pub alike_scope : (scope : Environment) (names free : Names) (env env' : Environment) → Alike (names_in scope ++ names) free env env' → Alike names free (scope ++ env) (scope ++ env')
-alike_scope [] names free env env' a = a
-alike_scope (b ∷ scope) names free env env' a =
-    alike_more b names free (scope ++ env) (scope ++ env')
-    (alike_scope scope (b.name ∷ names) free env env' (alike_names (b.name ∷ (names_in scope ++ names)) (names_in scope ++ b.name ∷ names) free env env' (λ y h. first_last b.name (names_in scope) names y h) a))
+pub coincide_scope : (scope : Environment) (names free : Names) (env env' : Environment) → Coincide (names_in scope ++ names) free env env' → Coincide names free (scope ++ env) (scope ++ env')
+coincide_scope [] names free env env' a = a
+coincide_scope (b ∷ scope) names free env env' a =
+    coincide_more b names free (scope ++ env) (scope ++ env')
+    (coincide_scope scope (b.name ∷ names) free env env' (coincide_names (b.name ∷ (names_in scope ++ names)) (names_in scope ++ b.name ∷ names) free env env' (λ y h. first_last b.name (names_in scope) names y h) a))

@@ -4,7 +4,7 @@ use Rattle.std.proofs.lemmas.List.{map-append}
 use Rattle.mt_eval_meaning.specs.Free.{Names, Used, has, finding, free_of, used_by_stmt_kind}
 use Rattle.mt_eval_meaning.specs.States.{keeping_free, trim_closure}
 use Rattle.mt_eval_agreement.proofs.Bound.{Covers, bound_names, own_names, body_makes, makes_then}
-use Rattle.mt_eval_agreement.proofs.Cuts.{Alike, alike_kept, alike_less, alike_left, alike_names, alike_bound, alike_scope, names_in, has_here, has_left, has_right, has_without, name_same, in_neither, clash, false_by}
+use Rattle.mt_eval_agreement.proofs.Cuts.{Coincide, coincide_kept, coincide_less, coincide_left, coincide_names, coincide_bound, coincide_scope, names_in, has_here, has_left, has_right, has_without, name_same, in_neither, clash, false_by}
 use Rattle.mt_eval_agreement.proofs.FreeExpressions.{tilde, referent_same, free_parts, free_from, SameParts, closure_same}
 use Rattle.mt_eval_agreement.proofs.FreeStatements.{body_same}
 use Rattle.mt_eval_agreement.proofs.Keeps.{keep_declare}
@@ -42,11 +42,11 @@ names_rest : (fs gs : List (List ℕ × Function)) (y : List ℕ) → has (map (
 names_rest fs gs y h = ap (λ (xs : Names). has xs y) (map-append (λ f. f.0) fs gs) ∙ has_right (map (λ f. f.0) fs) (map (λ f. f.0) gs) y h
 
 module _ {H : Type 0} (around : Surroundings) (keeps : (own : Option (List ℕ)) (f : Function) (env : Environment) → around.kept own f env ≡ env) where
-  module _ (free : Names) (env env' : Environment) (a : Alike [] free env env') where
+  module _ (free : Names) (env env' : Environment) (a : Coincide [] free env env') where
     define_same : (f : List ℕ × Function) → ((y : List ℕ) → has (on_function (finding (tilde around)) f.1).free y ≡ true → has free y ≡ true) → has free f.0 ≡ true → Sim (trim_view {H = H} around.tildes) (define around env f) (define (keeping_free around) env' f)
     unfolding define
     define_same f inner there =
-        sim_bind (trim_view around.tildes) (closure_same around keeps None f.1 env env' (alike_less [] free (free_of around.tildes None f.1) env env' (λ y h. inner y (free_parts around None f.1 y h).0) a)) (λ at.
+        sim_bind (trim_view around.tildes) (closure_same around keeps None f.1 env env' (coincide_less [] free (free_of around.tildes None f.1) env env' (λ y h. inner y (free_parts around None f.1 y h).0) a)) (λ at.
         subst (λ (r : Referent). Sim (trim_view {H = H} around.tildes) (on_state (declare f.0 (referent around env f.0) (value.Fun at))) (on_state (declare f.0 r (value.Fun at)))) (referent_same around free env env' f.0 a there)
         (sim_on_state (trim_view around.tildes) (keep_declare [] f.0 (referent around env f.0) (value.Fun at))))
 
@@ -86,30 +86,30 @@ module _ {H : Type 0} (around : Surroundings) (keeps : (own : Option (List ℕ))
 
     -- under the scope of a body, where all that it binds may count as free
     under_scope : (c : Closure) (scope : Environment) → Covers (bound_names c.own (names_of (out-Function c.function).parameters) (out-Function c.function).body) scope
-        → Alike [] ((all_used (tilde around) (out-Function c.function).body).free ++ names_in scope) (scope ++ c.environment) (scope ++ (trim_closure around.tildes c).environment)
+        → Coincide [] ((all_used (tilde around) (out-Function c.function).body).free ++ names_in scope) (scope ++ c.environment) (scope ++ (trim_closure around.tildes c).environment)
     under_scope c scope covers =
         let ts = (out-Function c.function).body in
         let all = bound_names c.own (names_of (out-Function c.function).parameters) ts in
         let u = (all_used (tilde around) ts).free in
         let E = c.environment in
         let E' = (trim_closure around.tildes c).environment in
-        let kept : Alike [] (free_of around.tildes c.own c.function) E E' = alike_kept (free_of around.tildes c.own c.function) E in
-        let apart : Alike (names_in scope) u E E' = record {
+        let kept : Coincide [] (free_of around.tildes c.own c.function) E E' = coincide_kept (free_of around.tildes c.own c.function) E in
+        let apart : Coincide (names_in scope) u E E' = record {
           cuts = λ some k. kept.cuts some (λ y i.
               let j = k y i in
               (free_in_body c.own c.function y j.0 (false_by (has all y) (λ b. clash (has (names_in scope) y) (covers y b) j.1)), refl));
         } in
-        let wide : Alike (names_in scope ++ []) (u ++ names_in scope) E E' =
-        alike_names (names_in scope) (names_in scope ++ []) (u ++ names_in scope) E E' (λ y h. false_by (has (names_in scope) y) (λ k. clash (has (names_in scope ++ []) y) (has_left (names_in scope) [] y k) h)) (alike_bound (names_in scope) u E E' apart) in
-        alike_scope scope [] (u ++ names_in scope) E E' wide
+        let wide : Coincide (names_in scope ++ []) (u ++ names_in scope) E E' =
+        coincide_names (names_in scope) (names_in scope ++ []) (u ++ names_in scope) E E' (λ y h. false_by (has (names_in scope) y) (λ k. clash (has (names_in scope ++ []) y) (has_left (names_in scope) [] y k) h)) (coincide_bound (names_in scope) u E E' apart) in
+        coincide_scope scope [] (u ++ names_in scope) E E' wide
 
     -- the functions of a body, and its statements
-    pub entered_same : (ts : List Stmt) (more : Names) (env env' : Environment) → ((y : List ℕ) → has (function_names ts) y ≡ true → has more y ≡ true) → Alike [] ((all_used (tilde around) ts).free ++ more) env env'
+    pub entered_same : (ts : List Stmt) (more : Names) (env env' : Environment) → ((y : List ℕ) → has (function_names ts) y ≡ true → has more y ≡ true) → Coincide [] ((all_used (tilde around) ts).free ++ more) env env'
         → Sim (trim_view around.tildes) (λ s. and_then (define_all around env ts s) (λ _. names.body around o p ts env)) (λ s. and_then (define_all (keeping_free around) env' ts s) (λ _. names.body (keeping_free around) o' q ts env'))
     entered_same ts more env env' named a =
         let u = (all_used (tilde around) ts).free in
         sim_bind (trim_view around.tildes) (define_all_same (u ++ more) env env' a ts (λ y h. has_left u more y h) (λ y h. has_right u more y (named y h)))
-        (λ _. body_same around o o' p q below ts env env' (alike_left u more env env' a))
+        (λ _. body_same around o o' p q below ts env env' (coincide_left u more env env' a))
 
     names_of_functions : (own : Option (List ℕ)) (parameters : Names) (ts : List Stmt) (scope : Environment) → Covers (bound_names own parameters ts) scope → Covers (function_names ts) scope
     names_of_functions own parameters ts scope covers y h =

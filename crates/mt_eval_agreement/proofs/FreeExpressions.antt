@@ -5,7 +5,7 @@ use Rattle.mt_eval_meaning.specs.Free.{Names, Used, has, without, none, joined, 
 use Rattle.mt_eval_meaning.specs.States.{keeping_free, kept_free, trim_closure}
 use Rattle.mt_eval_agreement.proofs.Bound.{own_names}
 use Rattle.mt_eval_agreement.proofs.Building.{sim_built}
-use Rattle.mt_eval_agreement.proofs.Cuts.{Alike, alike_find, alike_less, alike_left, alike_right, has_here, has_without, only_without, name_same}
+use Rattle.mt_eval_agreement.proofs.Cuts.{Coincide, coincide_find, coincide_less, coincide_left, coincide_right, has_here, has_without, only_without, name_same}
 use Rattle.mt_eval_agreement.proofs.Forms.{AllSim, none as no_parts, one, SimOutside, sim_constant, sim_unary, sim_operation, sim_conjunction, sim_disjunction, sim_conditional, sim_function, sim_array, sim_entry, sim_object, sim_index, sim_looked_up, sim_assignment, sim_update, sim_count, sim_tilde, sim_attribute, sim_element}
 use Rattle.mt_eval_agreement.proofs.Nests.{names_of_dollars}
 use Rattle.mt_eval_agreement.proofs.Outsides.{SimCalls, outside_sim, name_sim, sim_plain_callee, sim_member_callee, sim_call}
@@ -51,8 +51,8 @@ unfolding referent_outside
 outside_same around (Some b) name = refl
 outside_same around None name = refl
 
-pub referent_same : (around : Surroundings) (free : Names) (env env' : Environment) (name : List ℕ) → Alike [] free env env' → has free name ≡ true → referent around env name ≡ referent (keeping_free around) env' name
-referent_same around free env env' name a h = ap (λ o. bound_or_outside o around name) (sym (alike_find [] free env env' name a h refl)) ∙ outside_same around (find name env') name
+pub referent_same : (around : Surroundings) (free : Names) (env env' : Environment) (name : List ℕ) → Coincide [] free env env' → has free name ≡ true → referent around env name ≡ referent (keeping_free around) env' name
+referent_same around free env env' name a h = ap (λ o. bound_or_outside o around name) (sym (coincide_find [] free env env' name a h refl)) ∙ outside_same around (find name env') name
 
 -- ---- functions
 
@@ -95,10 +95,10 @@ free_in_tilde around id y h = names_of_dollars around.tildes y id (sym (ap (λ (
 -- ---- parts that do the same where environments agree on what is free in them
 
 pub record SameParts {H : Type 0} (around : Surroundings) (p q : names.Parts H) : Type 0 where
-  pub expr : (e : Expr) (env env' : Environment) → Alike [] (on_expr (finding (tilde around)) e).free env env' → Sim (trim_view around.tildes) (p.expr e env) (q.expr e env')
-  pub stmt : (t : Stmt) (env env' : Environment) → Alike [] (on_stmt (finding (tilde around)) t).free env env' → Sim (trim_view around.tildes) (p.stmt t env) (q.stmt t env')
+  pub expr : (e : Expr) (env env' : Environment) → Coincide [] (on_expr (finding (tilde around)) e).free env env' → Sim (trim_view around.tildes) (p.expr e env) (q.expr e env')
+  pub stmt : (t : Stmt) (env env' : Environment) → Coincide [] (on_stmt (finding (tilde around)) t).free env env' → Sim (trim_view around.tildes) (p.stmt t env) (q.stmt t env')
 
-pub closure_same : {H : Type 0} (around : Surroundings) → ((own : Option (List ℕ)) (f : Function) (env : Environment) → around.kept own f env ≡ env) → (own : Option (List ℕ)) (f : Function) (env env' : Environment) → Alike [] (free_of around.tildes own f) env env'
+pub closure_same : {H : Type 0} (around : Surroundings) → ((own : Option (List ℕ)) (f : Function) (env : Environment) → around.kept own f env ≡ env) → (own : Option (List ℕ)) (f : Function) (env env' : Environment) → Coincide [] (free_of around.tildes own f) env env'
     → Sim (trim_view {H = H} around.tildes) (capture (closure around own f env)) (capture (closure (keeping_free around) own f env'))
 closure_same {H = H} around keeps own f env env' a =
     let is : trim_closure around.tildes (closure around own f env) ≡ closure (keeping_free around) own f env' =
@@ -117,95 +117,95 @@ module _ {H : Type 0} (around : Surroundings) (keeps : (own : Option (List ℕ))
   outs : SimOutside (trim_view around.tildes) o o'
   outs = outside_sim (trim_view around.tildes) o o' calls
 
-  exprs_same : (es : List Expr) (env env' : Environment) → Alike [] (all_of none joined (map used es)).free env env' → AllSim (trim_view around.tildes) (names.exprs around o p es env) (names.exprs right o' q es env')
+  exprs_same : (es : List Expr) (env env' : Environment) → Coincide [] (all_of none joined (map used es)).free env env' → AllSim (trim_view around.tildes) (names.exprs around o p es env) (names.exprs right o' q es env')
   exprs_same [] env env' a = no_parts
   exprs_same (e ∷ es) env env' a =
       let rest = (all_of none joined (map used es)).free in
-      one (below.expr e env env' (alike_left (used e).free rest env env' a)) (exprs_same es env env' (alike_right (used e).free rest env env' a))
+      one (below.expr e env env' (coincide_left (used e).free rest env env' a)) (exprs_same es env env' (coincide_right (used e).free rest env env' a))
 
-  name_read : (text : List ℕ) (env env' : Environment) → Alike [] (text ∷ []) env env' → Sim (trim_view around.tildes) (read_name o text (referent around env text)) (read_name o' text (referent right env' text))
+  name_read : (text : List ℕ) (env env' : Environment) → Coincide [] (text ∷ []) env env' → Sim (trim_view around.tildes) (read_name o text (referent around env text)) (read_name o' text (referent right env' text))
   name_read text env env' a =
       subst (λ (r : Referent). Sim (trim_view around.tildes) (read_name o text (referent around env text)) (read_name o' text r)) (referent_same around (text ∷ []) env env' text a (has_here text [] text (name_same text)))
       (name_sim (trim_view around.tildes) o o' calls text (referent around env text))
 
   -- ---- targets and callees
 
-  target_at_same : (x : ExprKindLayer Tree) (env env' : Environment) → Alike [] (used_by_expr_kind (tilde around) (map_expr_kind (on (finding (tilde around))) x)).free env env'
+  target_at_same : (x : ExprKindLayer Tree) (env env' : Environment) → Coincide [] (used_by_expr_kind (tilde around) (map_expr_kind (on (finding (tilde around))) x)).free env env'
       → Sim (trim_view around.tildes) (names.target_at around o p x env) (names.target_at right o' q x env')
   target_at_same (ExprKind-F.Name text) env env' a =
       subst (λ (r : Referent). Sim (trim_view {H = H} around.tildes) (λ s. gives (reference.Name text (referent around env text)) s) (λ s. gives (reference.Name text r) s)) (referent_same around (text ∷ []) env env' text a (has_here text [] text (name_same text)))
       (sim_pure (trim_view around.tildes) (reference.Name text (referent around env text)))
   target_at_same (ExprKind-F.Index b k) env env' a =
-      sim_bind (trim_view around.tildes) (below.expr b env env' (alike_left (used b).free (used k).free env env' a)) (λ base.
-      sim_bind (trim_view around.tildes) (below.expr k env env' (alike_right (used b).free (used k).free env env' a)) (λ key. sim_pure (trim_view around.tildes) (reference.Property base key)))
+      sim_bind (trim_view around.tildes) (below.expr b env env' (coincide_left (used b).free (used k).free env env' a)) (λ base.
+      sim_bind (trim_view around.tildes) (below.expr k env env' (coincide_right (used b).free (used k).free env env' a)) (λ key. sim_pure (trim_view around.tildes) (reference.Property base key)))
   target_at_same _ env env' a = sim_pure (trim_view around.tildes) (reference.Property value.Undefined value.Undefined)
 
-  target_same : (e : Expr) (env env' : Environment) → Alike [] (used e).free env env' → Sim (trim_view around.tildes) (names.target around o p e env) (names.target right o' q e env')
-  target_same e env env' a = target_at_same (expr_kind_of e) env env' (subst (λ (u : Used). Alike [] u.free env env') (expr_uses (tilde around) e) a)
+  target_same : (e : Expr) (env env' : Environment) → Coincide [] (used e).free env env' → Sim (trim_view around.tildes) (names.target around o p e env) (names.target right o' q e env')
+  target_same e env env' a = target_at_same (expr_kind_of e) env env' (subst (λ (u : Used). Coincide [] u.free env env') (expr_uses (tilde around) e) a)
 
-  callee_at_same : (x : ExprKindLayer Tree) (e : Expr) (env env' : Environment) → Alike [] (used_by_expr_kind (tilde around) (map_expr_kind (on (finding (tilde around))) x)).free env env' → Alike [] (used e).free env env'
+  callee_at_same : (x : ExprKindLayer Tree) (e : Expr) (env env' : Environment) → Coincide [] (used_by_expr_kind (tilde around) (map_expr_kind (on (finding (tilde around))) x)).free env env' → Coincide [] (used e).free env env'
       → Sim (trim_view around.tildes) (names.callee_at around o p x e env) (names.callee_at right o' q x e env')
   callee_at_same (ExprKind-F.Index b k) e env env' a whole =
-      sim_member_callee (trim_view around.tildes) o o' calls (below.expr b env env' (alike_left (used b).free (used k).free env env' a)) (below.expr k env env' (alike_right (used b).free (used k).free env env' a))
+      sim_member_callee (trim_view around.tildes) o o' calls (below.expr b env env' (coincide_left (used b).free (used k).free env env' a)) (below.expr k env env' (coincide_right (used b).free (used k).free env env' a))
   callee_at_same _ e env env' a whole = sim_plain_callee (trim_view around.tildes) o o' calls (below.expr e env env' whole)
 
-  callee_same : (e : Expr) (env env' : Environment) → Alike [] (used e).free env env' → Sim (trim_view around.tildes) (names.callee_at around o p (expr_kind_of e) e env) (names.callee_at right o' q (expr_kind_of e) e env')
-  callee_same e env env' a = callee_at_same (expr_kind_of e) e env env' (subst (λ (u : Used). Alike [] u.free env env') (expr_uses (tilde around) e) a) a
+  callee_same : (e : Expr) (env env' : Environment) → Coincide [] (used e).free env env' → Sim (trim_view around.tildes) (names.callee_at around o p (expr_kind_of e) e env) (names.callee_at right o' q (expr_kind_of e) e env')
+  callee_same e env env' a = callee_at_same (expr_kind_of e) e env env' (subst (λ (u : Used). Coincide [] u.free env env') (expr_uses (tilde around) e) a) a
 
-  assigned_same : (op : Option Binary) (b e : Expr) (env env' : Environment) → Alike [] ((used b).free ++ (used e).free) env env' → Sim (trim_view around.tildes) (names.assigned_by around o p op b e env) (names.assigned_by right o' q op b e env')
+  assigned_same : (op : Option Binary) (b e : Expr) (env env' : Environment) → Coincide [] ((used b).free ++ (used e).free) env env' → Sim (trim_view around.tildes) (names.assigned_by around o p op b e env) (names.assigned_by right o' q op b e env')
   assigned_same None b e env env' a =
-      sim_assignment (trim_view around.tildes) o o' outs (target_same b env env' (alike_left (used b).free (used e).free env env' a)) (below.expr e env env' (alike_right (used b).free (used e).free env env' a))
+      sim_assignment (trim_view around.tildes) o o' outs (target_same b env env' (coincide_left (used b).free (used e).free env env' a)) (below.expr e env env' (coincide_right (used b).free (used e).free env env' a))
   assigned_same (Some op) b e env env' a =
-      sim_update (trim_view around.tildes) o o' outs op (target_same b env env' (alike_left (used b).free (used e).free env env' a)) (below.expr e env env' (alike_right (used b).free (used e).free env env' a))
+      sim_update (trim_view around.tildes) o o' outs op (target_same b env env' (coincide_left (used b).free (used e).free env env' a)) (below.expr e env env' (coincide_right (used b).free (used e).free env env' a))
 
   -- ---- properties of literals, attributes and children
 
-  entries_same : (qs : List Prop) (env env' : Environment) → Alike [] (all_of none joined (map (on_prop (finding (tilde around))) qs)).free env env' → AllSim (trim_view around.tildes) (map (λ r. names.entry around o p r env) qs) (map (λ r. names.entry right o' q r env') qs)
+  entries_same : (qs : List Prop) (env env' : Environment) → Coincide [] (all_of none joined (map (on_prop (finding (tilde around))) qs)).free env env' → AllSim (trim_view around.tildes) (map (λ r. names.entry around o p r env) qs) (map (λ r. names.entry right o' q r env') qs)
   entries_same [] env env' a = no_parts
   entries_same (r ∷ qs) env env' a =
       let first = (on_prop (finding (tilde around)) r).free in
       let rest = (all_of none joined (map (on_prop (finding (tilde around))) qs)).free in
-      one (sim_entry (trim_view around.tildes) (out-Prop r).name (below.expr (out-Prop r).value env env' (subst (λ (u : Used). Alike [] u.free env env') (prop_uses (tilde around) r) (alike_left first rest env env' a))))
-      (entries_same qs env env' (alike_right first rest env env' a))
+      one (sim_entry (trim_view around.tildes) (out-Prop r).name (below.expr (out-Prop r).value env env' (subst (λ (u : Used). Coincide [] u.free env env') (prop_uses (tilde around) r) (coincide_left first rest env env' a))))
+      (entries_same qs env env' (coincide_right first rest env env' a))
 
-  value_same : (x : MarkupValueLayer Tree) (env env' : Environment) → Alike [] (of_markup_value none joined (map_markup_value (on (finding (tilde around))) x)).free env env' → Sim (trim_view around.tildes) (names.attribute_value around o p x env) (names.attribute_value right o' q x env')
+  value_same : (x : MarkupValueLayer Tree) (env env' : Environment) → Coincide [] (of_markup_value none joined (map_markup_value (on (finding (tilde around))) x)).free env env' → Sim (trim_view around.tildes) (names.attribute_value around o p x env) (names.attribute_value right o' q x env')
   value_same (MarkupValue-F.Quoted text) env env' a = sim_pure (trim_view around.tildes) (value.Text text)
   value_same (MarkupValue-F.MarkupValue::Tilde e) env env' a = below.expr e env env' a
   value_same (MarkupValue-F.MarkupValue::Dollar e) env env' a = below.expr e env env' a
 
-  attributes_same : (xs : List MarkupAttribute) (env env' : Environment) → Alike [] (all_of none joined (map (on_markup_attribute (finding (tilde around))) xs)).free env env'
+  attributes_same : (xs : List MarkupAttribute) (env env' : Environment) → Coincide [] (all_of none joined (map (on_markup_attribute (finding (tilde around))) xs)).free env env'
       → AllSim (trim_view around.tildes) (map (λ x. names.attribute around o p x env) xs) (map (λ x. names.attribute right o' q x env') xs)
   attributes_same [] env env' a = no_parts
   attributes_same (x ∷ xs) env env' a =
       let first = (on_markup_attribute (finding (tilde around)) x).free in
       let rest = (all_of none joined (map (on_markup_attribute (finding (tilde around))) xs)).free in
-      one (sim_attribute (trim_view around.tildes) o o' outs (out-MarkupAttribute x).name.name (value_same (out-MarkupValue (out-MarkupAttribute x).value) env env' (subst (λ (u : Used). Alike [] u.free env env') (attribute_uses (tilde around) x) (alike_left first rest env env' a))))
-      (attributes_same xs env env' (alike_right first rest env env' a))
+      one (sim_attribute (trim_view around.tildes) o o' outs (out-MarkupAttribute x).name.name (value_same (out-MarkupValue (out-MarkupAttribute x).value) env env' (subst (λ (u : Used). Coincide [] u.free env env') (attribute_uses (tilde around) x) (coincide_left first rest env env' a))))
+      (attributes_same xs env env' (coincide_right first rest env env' a))
 
-  child_same : (x : MarkupChildLayer Tree) (env env' : Environment) → Alike [] (of_markup_child none joined (map_markup_child (on (finding (tilde around))) x)).free env env' → Sim (trim_view around.tildes) (names.child_at around o p x env) (names.child_at right o' q x env')
+  child_same : (x : MarkupChildLayer Tree) (env env' : Environment) → Coincide [] (of_markup_child none joined (map_markup_child (on (finding (tilde around))) x)).free env env' → Sim (trim_view around.tildes) (names.child_at around o p x env) (names.child_at right o' q x env')
   child_same (MarkupChild-F.MarkupChild::Text text) env env' a = sim_pure (trim_view around.tildes) (value.Text text)
   child_same (MarkupChild-F.Direct e) env env' a = below.expr e env env' a
   child_same (MarkupChild-F.MarkupChild::Dollar e) env env' a = below.expr e env env' a
 
-  children_same : (xs : List MarkupChild) (env env' : Environment) → Alike [] (all_of none joined (map (on_markup_child (finding (tilde around))) xs)).free env env'
+  children_same : (xs : List MarkupChild) (env env' : Environment) → Coincide [] (all_of none joined (map (on_markup_child (finding (tilde around))) xs)).free env env'
       → AllSim (trim_view around.tildes) (map (λ x. names.child around o p x env) xs) (map (λ x. names.child right o' q x env') xs)
   children_same [] env env' a = no_parts
   children_same (x ∷ xs) env env' a =
       let first = (on_markup_child (finding (tilde around)) x).free in
       let rest = (all_of none joined (map (on_markup_child (finding (tilde around))) xs)).free in
-      one (child_same (out-MarkupChild x) env env' (subst (λ (u : Used). Alike [] u.free env env') (child_uses (tilde around) x) (alike_left first rest env env' a)))
-      (children_same xs env env' (alike_right first rest env env' a))
+      one (child_same (out-MarkupChild x) env env' (subst (λ (u : Used). Coincide [] u.free env env') (child_uses (tilde around) x) (coincide_left first rest env env' a)))
+      (children_same xs env env' (coincide_right first rest env env' a))
 
-  element_same : (m : Markup) (env env' : Environment) → Alike [] (on_markup (finding (tilde around)) m).free env env' → Sim (trim_view around.tildes) (names.element around o p m env) (names.element right o' q m env')
+  element_same : (m : Markup) (env env' : Environment) → Coincide [] (on_markup (finding (tilde around)) m).free env env' → Sim (trim_view around.tildes) (names.element around o p m env) (names.element right o' q m env')
   element_same m env env' a =
       let first = (all_of none joined (map (on_markup_attribute (finding (tilde around))) (out-Markup m).attributes)).free in
       let rest = (all_of none joined (map (on_markup_child (finding (tilde around))) (out-Markup m).children)).free in
-      let parts : Alike [] (first ++ rest) env env' = subst (λ (u : Used). Alike [] u.free env env') (markup_uses (tilde around) m) a in
-      sim_element (trim_view around.tildes) o o' outs (out-Markup m).tag (attributes_same (out-Markup m).attributes env env' (alike_left first rest env env' parts)) (children_same (out-Markup m).children env env' (alike_right first rest env env' parts))
+      let parts : Coincide [] (first ++ rest) env env' = subst (λ (u : Used). Coincide [] u.free env env') (markup_uses (tilde around) m) a in
+      sim_element (trim_view around.tildes) o o' outs (out-Markup m).tag (attributes_same (out-Markup m).attributes env env' (coincide_left first rest env env' parts)) (children_same (out-Markup m).children env env' (coincide_right first rest env env' parts))
 
   -- ---- the cases
 
-  pub expr_same : (x : ExprKindLayer Tree) (env env' : Environment) → Alike [] (used_by_expr_kind (tilde around) (map_expr_kind (on (finding (tilde around))) x)).free env env'
+  pub expr_same : (x : ExprKindLayer Tree) (env env' : Environment) → Coincide [] (used_by_expr_kind (tilde around) (map_expr_kind (on (finding (tilde around))) x)).free env env'
       → Sim (trim_view around.tildes) (names.expr_at around o p x env) (names.expr_at right o' q x env')
   expr_same (ExprKind-F.Name text) env env' a = sim_looked_up (trim_view around.tildes) o o' outs (name_read text env env' a)
   expr_same (ExprKind-F.Num n) env env' a = sim_constant (trim_view around.tildes) (value.Num n)
@@ -217,28 +217,28 @@ module _ {H : Type 0} (around : Surroundings) (keeps : (own : Option (List ℕ))
   expr_same (ExprKind-F.Obj qs) env env' a = sim_object (trim_view around.tildes) (entries_same qs env env' a)
   expr_same (ExprKind-F.Fun f) env env' a =
       sim_function (trim_view around.tildes) (closure_same around keeps (own_name (out-Function f).name) f env env'
-      (alike_less [] (without (on_function (finding (tilde around)) f).functions (on_function (finding (tilde around)) f).free) (free_of around.tildes (own_name (out-Function f).name) f) env env' (free_in_expression around f) a))
+      (coincide_less [] (without (on_function (finding (tilde around)) f).functions (on_function (finding (tilde around)) f).free) (free_of around.tildes (own_name (out-Function f).name) f) env env' (free_in_expression around f) a))
   expr_same (ExprKind-F.Unary op e) env env' a = sim_unary (trim_view around.tildes) op (below.expr e env env' a)
   expr_same (ExprKind-F.Step kind e) env env' a = sim_count (trim_view around.tildes) o o' outs kind (target_same e env env' a)
   expr_same (ExprKind-F.Binary op b c) env env' a =
-      sim_operation (trim_view around.tildes) op (below.expr b env env' (alike_left (used b).free (used c).free env env' a)) (below.expr c env env' (alike_right (used b).free (used c).free env env' a))
+      sim_operation (trim_view around.tildes) op (below.expr b env env' (coincide_left (used b).free (used c).free env env' a)) (below.expr c env env' (coincide_right (used b).free (used c).free env env' a))
   expr_same (ExprKind-F.And b c) env env' a =
-      sim_conjunction (trim_view around.tildes) (below.expr b env env' (alike_left (used b).free (used c).free env env' a)) (below.expr c env env' (alike_right (used b).free (used c).free env env' a))
+      sim_conjunction (trim_view around.tildes) (below.expr b env env' (coincide_left (used b).free (used c).free env env' a)) (below.expr c env env' (coincide_right (used b).free (used c).free env env' a))
   expr_same (ExprKind-F.Or b c) env env' a =
-      sim_disjunction (trim_view around.tildes) (below.expr b env env' (alike_left (used b).free (used c).free env env' a)) (below.expr c env env' (alike_right (used b).free (used c).free env env' a))
+      sim_disjunction (trim_view around.tildes) (below.expr b env env' (coincide_left (used b).free (used c).free env env' a)) (below.expr c env env' (coincide_right (used b).free (used c).free env env' a))
   expr_same (ExprKind-F.Cond b c d) env env' a =
-      let rest : Alike [] ((used c).free ++ (used d).free) env env' = alike_right (used b).free ((used c).free ++ (used d).free) env env' a in
-      sim_conditional (trim_view around.tildes) (below.expr b env env' (alike_left (used b).free ((used c).free ++ (used d).free) env env' a)) (below.expr c env env' (alike_left (used c).free (used d).free env env' rest))
-      (below.expr d env env' (alike_right (used c).free (used d).free env env' rest))
+      let rest : Coincide [] ((used c).free ++ (used d).free) env env' = coincide_right (used b).free ((used c).free ++ (used d).free) env env' a in
+      sim_conditional (trim_view around.tildes) (below.expr b env env' (coincide_left (used b).free ((used c).free ++ (used d).free) env env' a)) (below.expr c env env' (coincide_left (used c).free (used d).free env env' rest))
+      (below.expr d env env' (coincide_right (used c).free (used d).free env env' rest))
   expr_same (ExprKind-F.Assign op b c) env env' a = assigned_same op b c env env' a
   expr_same (ExprKind-F.Index b k) env env' a =
-      sim_index (trim_view around.tildes) o o' outs (below.expr b env env' (alike_left (used b).free (used k).free env env' a)) (below.expr k env env' (alike_right (used b).free (used k).free env env' a))
+      sim_index (trim_view around.tildes) o o' outs (below.expr b env env' (coincide_left (used b).free (used k).free env env' a)) (below.expr k env env' (coincide_right (used b).free (used k).free env env' a))
   expr_same (ExprKind-F.Call f es) env env' a =
       let rest = (all_of none joined (map used es)).free in
-      sim_call (trim_view around.tildes) o o' calls (callee_same f env env' (alike_left (used f).free rest env env' a)) (exprs_same es env env' (alike_right (used f).free rest env env' a))
+      sim_call (trim_view around.tildes) o o' calls (callee_same f env env' (coincide_left (used f).free rest env env' a)) (exprs_same es env env' (coincide_right (used f).free rest env env' a))
   expr_same (ExprKind-F.ExprKind::Tilde id) env env' a =
       let es = dollars_of (slice_get around.tildes id) in
-      sim_tilde (trim_view around.tildes) o o' outs id (exprs_same es env env' (alike_less [] (tilde around id) (all_of none joined (map used es)).free env env' (free_in_tilde around id) a))
+      sim_tilde (trim_view around.tildes) o o' outs id (exprs_same es env env' (coincide_less [] (tilde around id) (all_of none joined (map used es)).free env env' (free_in_tilde around id) a))
   expr_same (ExprKind-F.ExprKind::Dollar at) env env' a = sim_constant (trim_view around.tildes) value.Undefined
   expr_same (ExprKind-F.Stray e) env env' a = sim_constant (trim_view around.tildes) value.Undefined
   expr_same (ExprKind-F.Markup m) env env' a = element_same m env env' a

@@ -4,7 +4,7 @@ use Rattle.mt_eval_meaning.specs.Agreement.{SameTrimmed}
 use Rattle.mt_eval_meaning.specs.Free.{Used}
 use Rattle.mt_eval_meaning.specs.States.{keeping_free, trim, trimmed, trim_closure}
 use Rattle.mt_eval_agreement.proofs.Bound.{Covers, bound_names, lexicals_make, body_makes, makes_then}
-use Rattle.mt_eval_agreement.proofs.Cuts.{Alike, alike_same}
+use Rattle.mt_eval_agreement.proofs.Cuts.{Coincide, coincide_same}
 use Rattle.mt_eval_agreement.proofs.FreeBodies.{entered_same, function_same}
 use Rattle.mt_eval_agreement.proofs.FreeExpressions.{tilde, SameParts, expr_same}
 use Rattle.mt_eval_agreement.proofs.FreeStatements.{stmt_same}
@@ -94,10 +94,10 @@ module _ {H : Type 0} (around : Surroundings) (keeps : (own : Option (List ℕ))
         let p = names.parts around host m depth in
         let q = names.parts (keeping_free around) host n depth in
         record {
-          expr = λ e env env' a. expr_same around keeps here there (calls_same m n enters) p q (level_same depth) (expr_kind_of e) env env' (subst (λ (u : Used). Alike [] u.free env env') (expr_uses (tilde around) e) a);
+          expr = λ e env env' a. expr_same around keeps here there (calls_same m n enters) p q (level_same depth) (expr_kind_of e) env env' (subst (λ (u : Used). Coincide [] u.free env env') (expr_uses (tilde around) e) a);
           stmt = λ t env env' a.
               sim_bind (trim_view around.tildes) (sim_on_state (trim_view around.tildes) (keep_spend [] 0)) (λ _.
-              stmt_same around here there p q (level_same depth) (kind_of t) env env' (subst (λ (u : Used). Alike [] u.free env env') (stmt_uses (tilde around) t) a));
+              stmt_same around here there p q (level_same depth) (kind_of t) env env' (subst (λ (u : Used). Coincide [] u.free env env') (stmt_uses (tilde around) t) a));
         }
 
     called_same : (c : Closure) (at : ℕ) (vs : List Value)
@@ -110,7 +110,7 @@ module _ {H : Type 0} (around : Surroundings) (keeps : (own : Option (List ℕ))
         (λ s. and_then (define_all (keeping_free around) scope items s) (λ _. names.body (keeping_free around) there (names.parts (keeping_free around) host n depth_limit) items scope))
     top_same items scope =
         entered_same around keeps here there (names.parts around host m depth_limit) (names.parts (keeping_free around) host n depth_limit) (level_same depth_limit) items (function_names items) scope scope (λ y h. h)
-        (alike_same [] ((all_used (tilde around) items).free ++ function_names items) scope)
+        (coincide_same [] ((all_used (tilde around) items).free ++ function_names items) scope)
 
   pub enter_same : (calls : ℕ) → SameEnter (names.enter_to around host calls) (names.enter_to (keeping_free around) host calls)
   enter_same zero at vs = with_closure_same (λ c s. leaves (exit.Stop stop.Depth) s) (λ c s. leaves (exit.Stop stop.Depth) s) (λ c. sim_leave (trim_view around.tildes) (exit.Stop stop.Depth)) at
@@ -200,5 +200,5 @@ module _ {H : Type 0} (around : Surroundings) (keeps : (own : Option (List ℕ))
   pub client_code_same : (items : List Stmt) → SameTrimmed around.tildes (names.client_code around host items) (names.client_code (keeping_free around) host items)
   client_code_same items = same_trimmed (names.client_code around host items) (names.client_code (keeping_free around) host items) (client_trims items)
 
-  pub called_alike : (f : Value) (vs : List Value) → SameTrimmed around.tildes (names.called around host f vs) (names.called (keeping_free around) host f vs)
-  called_alike f vs = same_trimmed (names.called around host f vs) (names.called (keeping_free around) host f vs) (called_trims f vs)
+  pub called_trimmed : (f : Value) (vs : List Value) → SameTrimmed around.tildes (names.called around host f vs) (names.called (keeping_free around) host f vs)
+  called_trimmed f vs = same_trimmed (names.called around host f vs) (names.called (keeping_free around) host f vs) (called_trims f vs)

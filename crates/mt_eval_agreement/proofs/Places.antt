@@ -150,6 +150,6 @@ module _ {H : Type 0} (tildes : List Tilde) (table : List Numbered) (items : Lis
   started_as ran r starts (Ok v) new did = subst (λ (x : Ran (State × H) Value). StartsAs tildes table items ran x) did starts
   started_as ran r starts (Err e) new did = λ other. subst (λ (x : Ran (State × H) Value). StartsAs tildes table items ran x) (did other) starts
 
-  pub shown_alike : (ran : Ran (State × Named H) Environment) (r : Ran (State × H) Value) → StartsAs tildes table items ran r → shown_by_names (aside ran) ≡ shown (aside r)
-  shown_alike ran (gives v s) starts = ap (λ (r : Ran (State × Named H) Environment). shown_by_names (aside r)) starts.1 ∙ ap (λ (x : State × H). gives tt x) (state_shown tildes table s starts.0 starts.2)
-  shown_alike ran (leaves e s) starts = ap (λ (r : Ran (State × Named H) Environment). shown_by_names (aside r)) starts.1 ∙ ap (λ (x : State × H). leaves e x) (state_shown tildes table s starts.0 starts.2)
+  pub shown_agrees : (ran : Ran (State × Named H) Environment) (r : Ran (State × H) Value) → StartsAs tildes table items ran r → shown_by_names (aside ran) ≡ shown (aside r)
+  shown_agrees ran (gives v s) starts = ap (λ (r : Ran (State × Named H) Environment). shown_by_names (aside r)) starts.1 ∙ ap (λ (x : State × H). gives tt x) (state_shown tildes table s starts.0 starts.2)
+  shown_agrees ran (leaves e s) starts = ap (λ (r : Ran (State × Named H) Environment). shown_by_names (aside r)) starts.1 ∙ ap (λ (x : State × H). leaves e x) (state_shown tildes table s starts.0 starts.2)

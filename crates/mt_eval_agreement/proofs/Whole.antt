@@ -3,7 +3,7 @@ use Rattle.std.proofs.Common.{◌≡◌, List, [], refl}
 use Rattle.mt_eval_meaning.specs.Agreement.{EvaluatesAs, FreeIsEnough, StartsAs, file_on_slots, without_functions}
 use Rattle.mt_eval_meaning.specs.Code.{TableStands, FileStands, ClientCodeStands}
 use Rattle.mt_eval_meaning.specs.States.{Numbered, keeping_free, keeping_whole}
-use Rattle.mt_eval_agreement.proofs.FreeLevels.{file_same, client_code_same, called_alike}
+use Rattle.mt_eval_agreement.proofs.FreeLevels.{file_same, client_code_same, called_trimmed}
 use Rattle.mt_eval_agreement.proofs.Laws.{evaluates_as}
 use Rattle.mt_eval_agreement.proofs.Places.{starts_as}
 use Rattle.mt_eval_agreement.proofs.Levels.{file_agrees, client_agrees, called_agrees}
@@ -21,7 +21,7 @@ pub free_law : {H : Type 0} (around : Surroundings) (host : Meaning H) → FreeI
 free_law around host = record {
   file = file_same (keeping_whole around) (λ own f environment. refl) host;
   client_code = client_code_same (keeping_whole around) (λ own f environment. refl) host;
-  called = called_alike (keeping_whole around) (λ own f environment. refl) host;
+  called = called_trimmed (keeping_whole around) (λ own f environment. refl) host;
 }
 
 module _ {H : Type 0} (around : Surroundings) (units : List Code) (table : List Numbered) (host : Meaning H) (stands : TableStands around units table) where

@@ -40,9 +40,9 @@ pub fn file_starts<H: Host>()
     ensures { (around : Surroundings) (units : List Function) (table : List Numbered) → TableStands around units table → (u : Unit') (items : List Stmt) → FileStands around units table u items → (s : State × H) → s.0.store ≡ [] → StartsAs around.tildes table items (file (keeping_whole around) H.meaning items (without_functions s)) (slots.unit units H.meaning u s) }
 {}
 
-/// On an empty store the unit of a file on slots and the file end alike, with the same throw or stop, host, globals and budget, and with
+/// On an empty store the unit of a file on slots and the file end the same way, with the same throw or stop, host, globals and budget, and with
 /// stores that a host sees as the same.
-pub fn file_starts_alike<H: Host>()
+pub fn file_start_agrees<H: Host>()
     ensures { (around : Surroundings) (units : List Function) (table : List Numbered) → TableStands around units table → (u : Unit') (items : List Stmt) → FileStands around units table u items → (s : State × H) → s.0.store ≡ [] → shown_by_names (aside (file (keeping_whole around) H.meaning items (without_functions s))) ≡ shown (aside (slots.unit units H.meaning u s)) }
 {}
 
@@ -57,7 +57,7 @@ pub fn call_agrees<H: Host>()
 {}
 
 /// Functions that keep the variables of the names that are free in them do all that they do with their whole environments, for every
-/// host: each job ends alike, with the same host and budget, and with a store that differs in what its functions keep alone.
+/// host: each job ends the same way, with the same host and budget, and with a store that differs in what its functions keep alone.
 pub fn what_is_free_is_enough<H: Host>()
     ensures { (around : Surroundings) → FreeIsEnough around H.meaning }
 {}

@@ -123,13 +123,13 @@ module _ (element : List ℕ → List (List ℕ) → ℕ → Bool) (tildes : ℕ
       children = all_fit (λ a b. PieceStandsForChild around units table (ExprStandsTo around units table k) scope (out-Piece a) (out-MarkupChild b)) (on_markup_child (test element is_met)) (λ c. PieceFits A T F p (out-Piece c)) (λ u c h fit.
           child_at (out-Piece u) (out-MarkupChild c) h (ap (λ (t : Tested). t.fits) (sym (child_test element is_met c)) ∙ fit))
 
-      names_alike : (us : List Attribute) (bs : List MarkupAttribute) → AllStand (AttributeStands around units table (ExprStandsTo around units table k) scope) us bs → map (λ (a : Attribute). (out-Attribute a).name) us ≡ map (λ (t : Tested). t.name) (map (on_markup_attribute (test element is_met)) bs)
-      names_alike [] [] h = refl
-      names_alike (u ∷ us) (b ∷ bs) h =
+      names_same : (us : List Attribute) (bs : List MarkupAttribute) → AllStand (AttributeStands around units table (ExprStandsTo around units table k) scope) us bs → map (λ (a : Attribute). (out-Attribute a).name) us ≡ map (λ (t : Tested). t.name) (map (on_markup_attribute (test element is_met)) bs)
+      names_same [] [] h = refl
+      names_same (u ∷ us) (b ∷ bs) h =
           let first : (out-Attribute u).name ≡ (on_markup_attribute (test element is_met) b).name = h.0.0 ∙ ap (λ (t : Tested). t.name) (sym (attribute_test element is_met b)) in
-          ap₂ (λ (name : List ℕ) (names : List (List ℕ)). name ∷ names) first (names_alike us bs h.1)
-      names_alike [] (b ∷ bs) h = absurd h
-      names_alike (u ∷ us) [] h = absurd h
+          ap₂ (λ (name : List ℕ) (names : List (List ℕ)). name ∷ names) first (names_same us bs h.1)
+      names_same [] (b ∷ bs) h = absurd h
+      names_same (u ∷ us) [] h = absurd h
 
       element_fits : (tag : List ℕ) (us : List Attribute) (cs : List Piece) (m : Markup) → ExprStands around units table (ExprStandsTo around units table k) scope (Expr-F.Element tag us cs) (ExprKind-F.Markup m) → IsTrue (on_markup (test element is_met) m).fits → ExprFits A T F p (Expr-F.Element tag us cs)
       element_fits tag us cs m h fit =
@@ -141,7 +141,7 @@ module _ (element : List ℕ → List (List ℕ) → ℕ → Bool) (tildes : ℕ
           let rest = and_parts first second parts.1 in
           let long : count ≡ length cs = mapped_length (on_markup_child (test element is_met)) (out-Markup m).children ∙ sym (same_length _ cs (out-Markup m).children h.2) in (
             subst (λ (t : List ℕ). IsTrue (element t (map (λ (a : Attribute). (out-Attribute a).name) us) (length cs))) (sym h.0)
-                (subst (λ (ns : List (List ℕ)). IsTrue (element (out-Markup m).tag ns (length cs))) (sym (names_alike us (out-Markup m).attributes h.1))
+                (subst (λ (ns : List (List ℕ)). IsTrue (element (out-Markup m).tag ns (length cs))) (sym (names_same us (out-Markup m).attributes h.1))
                 (subst (λ n. IsTrue (element (out-Markup m).tag names n)) long parts.0)),
             attributes us (out-Markup m).attributes h.1 rest.0,
             children cs (out-Markup m).children h.2 rest.1,

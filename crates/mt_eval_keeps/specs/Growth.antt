@@ -17,7 +17,7 @@ pub data Thing : Type 0 where
   frame : FrameCell → Thing
   html : Html Closure → Thing
   code : Closure → Thing
-  -- a tilde, by its number, with so many values
+  -- a tilde, by its number and the number of its values
   tilde : ℕ → ℕ → Thing
   -- the host itself, with all tildes of the code that is evaluated
   itself : Thing
@@ -73,12 +73,12 @@ module _ {H : Type 0} (owns : Owning H) where
 
   -- An array or object may yet grow by each step that is left, and not pass `most`.
   module _ (most : ℕ) where
-    -- a cell that the host may meet, where so many steps may be taken
+    -- a cell that the host may meet, where that many steps may be taken
     pub record FitsCell (h : H) (steps : ℕ) (c : Cell) : Type 0 where
       pub own : OwnCell h c
       pub room : count_of c + steps ≤ most
 
-    -- the state is lawful, with room for so many steps
+    -- the state is lawful, with room for that many steps
     pub record Good (steps : ℕ) (s : State × H) : Type 0 where
       pub store : Lawful s.0.store
       pub globals : All (λ v. Fits s v.1) s.0.globals

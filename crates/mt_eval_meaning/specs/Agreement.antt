@@ -28,7 +28,7 @@ file_on_slots units host u items = do
   slots.body units (slots.parts units host call_limit depth_limit) u.body.statements activation
   pure (environment_of (body_entry 0 None [] items) activation)
 
--- ---- runs that end alike, in states of which one stands for the other
+-- ---- runs that end the same way, in states of which one stands for the other
 
 module _ {H : Type 0} (tildes : List Tilde) (table : List Numbered) where
   -- a run by names and one on slots

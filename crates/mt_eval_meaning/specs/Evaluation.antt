@@ -254,7 +254,7 @@ module _ {H : Type 0} (around : Surroundings) (host : Meaning H) where
   abbrev pub with_closure : ℕ → (Closure → Eval (Named H) Value) → Eval (Named H) Value
   with_closure at enter = λ s. entered_by enter (closure_at at s.1.closures) s
 
-  -- the call of the function in a cell, where so many may still begin
+  -- the call of the function in a cell, where that many may still begin
   abbrev pub enter_to : ℕ → Enter
   enter_to zero at arguments = with_closure at (λ c. leave (exit.Stop stop.Depth))
   enter_to (suc left) at arguments = with_closure at (λ c. function_body around (outside_with (enter_to left)) (parts (enter_to left) depth_limit) c at arguments)

@@ -237,7 +237,7 @@ module _ {H : Type 0} (functions : List Function) (host : Meaning H) where
   level enter zero = record { expr = λ e activation. leave (exit.Stop stop.Depth); stmt = λ t activation. leave (exit.Stop stop.Depth) }
   level enter (suc depth) = record { expr = expr functions (over host enter (level enter depth)); stmt = stmt functions (over host enter (level enter depth)) }
 
-  -- the call of the function in a cell, where so many may still begin
+  -- the call of the function in a cell, where that many may still begin
   abbrev pub enter_to : ℕ → Enter H
   enter_to zero at arguments = with_function at (λ f. leave (exit.Stop stop.Depth))
   enter_to (suc left) at arguments =

@@ -16,7 +16,7 @@ use Rattle.mt_value.specs.declared.value.Value.TheVariants as value
 
 -- ---- steps on the state alone
 
--- Takes one step and so many more. Where they are more than what is left, the job stops and nothing is taken.
+-- Takes one step and that many more. Where they are more than what is left, the job stops and nothing is taken.
 unfoldable pub spend : ℕ → Run State (Unit {0})
 spend more = λ s. if nat_lt more s.budget then gives tt (record s { budget = s.budget - suc more }) else leaves (exit.Stop stop.Budget) s
 

@@ -77,7 +77,7 @@ module _ {K : Type 0} where
   followed before None next = λ s. if nat_lt s.0.budget before then next s else leaves (exit.Stop stop.Budget) s
   followed before (Some c) next = pure c
 
-  -- at most so many turns
+  -- at most that many turns
   abbrev pub turns : ℕ → Eval K (Option Completion) → Eval K Completion
   turns zero one = leave (exit.Stop stop.Budget)
   turns (suc n) one = λ s. and_then (one s) (λ c. followed s.0.budget c (turns n one))

@@ -51,7 +51,7 @@ fn initial(declared: bool) -> Option<Value>
     }
 }
 
-/// An activation with so many new variables behind it, which are undefined where they are declared.
+/// An activation with `count` new variables behind it, which are undefined where they are declared.
 ///
 /// # Errors
 /// `NoMemory`.

@@ -3,7 +3,7 @@ ghost use Rattle.mt_eval_meaning.specs.State as spec;
 
 use mt_eval_meaning::{Exit, State, Stop};
 
-/// Takes one step and so many more. Takes no memory.
+/// Takes one step and that many more. Takes no memory.
 ///
 /// # Errors
 /// The stop `Budget`, exactly where they are more than what is left; nothing is taken then.

@@ -57,7 +57,7 @@ impl<
     /// The value of a part of a node.
     ///
     /// # Errors
-    /// As the code says, and `NoMemory`.
+    /// `Throw` with the value that the code throws, `Stop` with what stops the job, and `NoMemory`.
     pub fn expr(
         &self,
         activation: &[Address],

@@ -42,7 +42,7 @@ impl<
     /// The values of expressions, from left to right.
     ///
     /// # Errors
-    /// As the code says, and `NoMemory`.
+    /// `Throw` with the value that the code throws, `Stop` with what stops the job, and `NoMemory`.
     pub fn exprs(
         &self,
         activation: &[Address],
@@ -171,7 +171,7 @@ impl<
     /// `[a, b]`
     ///
     /// # Errors
-    /// As the code says, and `NoMemory`.
+    /// `Throw` with the value that the code throws, `Stop` with what stops the job, and `NoMemory`.
     #[tactic(auto, unfolding(mt_eval_meaning::specs::Expressions::array))]
     pub fn array(
         &self,
@@ -192,7 +192,7 @@ impl<
     /// `{k: a, l: b}`: a repeated key keeps its first place, and takes its last value.
     ///
     /// # Errors
-    /// As the code says, and `NoMemory`.
+    /// `Throw` with the value that the code throws, `Stop` with what stops the job, and `NoMemory`.
     #[tactic(auto, unfolding(mt_eval_meaning::specs::Expressions::object))]
     pub fn object(
         &self,
@@ -214,7 +214,7 @@ impl<
     /// A tilde, by its number and the expressions of its dollars.
     ///
     /// # Errors
-    /// As the code says, and `NoMemory`.
+    /// `Throw` with the value that the code throws, `Stop` with what stops the job, and `NoMemory`.
     #[tactic(auto, unfolding(mt_eval_meaning::specs::Expressions::tilde))]
     pub fn tilde(
         &self,
@@ -235,7 +235,7 @@ impl<
     /// An element, by its tag, its attributes and its children.
     ///
     /// # Errors
-    /// As the code says, and `NoMemory`.
+    /// `Throw` with the value that the code throws, `Stop` with what stops the job, and `NoMemory`.
     #[tactic(auto, unfolding(mt_eval_meaning::specs::Expressions::element))]
     pub fn element(
         &self,

@@ -65,7 +65,7 @@ impl<
     /// A name that is read.
     ///
     /// # Errors
-    /// As the code says, and `NoMemory`.
+    /// `Throw` with the value that the code throws, `Stop` with what stops the job, and `NoMemory`.
     #[tactic(auto, unfolding(mt_eval_meaning::specs::Expressions::looked_up))]
     pub fn name(
         &self,
@@ -102,7 +102,7 @@ impl<
     /// An operator before its operand.
     ///
     /// # Errors
-    /// As the code says, and `NoMemory`.
+    /// `Throw` with the value that the code throws, `Stop` with what stops the job, and `NoMemory`.
     #[tactic(auto, unfolding(mt_eval_meaning::specs::Expressions::unary))]
     pub fn unary(
         &self,
@@ -123,7 +123,7 @@ impl<
     /// An operator between two operands.
     ///
     /// # Errors
-    /// As the code says, and `NoMemory`.
+    /// `Throw` with the value that the code throws, `Stop` with what stops the job, and `NoMemory`.
     #[tactic(auto, unfolding(mt_eval_meaning::specs::Expressions::operation))]
     pub fn operation(
         &self,
@@ -146,7 +146,7 @@ impl<
     /// `a && b`: the second operand is evaluated where the first is true.
     ///
     /// # Errors
-    /// As the code says, and `NoMemory`.
+    /// `Throw` with the value that the code throws, `Stop` with what stops the job, and `NoMemory`.
     #[tactic(auto, unfolding(mt_eval_meaning::specs::Expressions::conjunction))]
     pub fn conjunction(
         &self,
@@ -172,7 +172,7 @@ impl<
     /// `a || b`: the second operand is evaluated where the first isn't true.
     ///
     /// # Errors
-    /// As the code says, and `NoMemory`.
+    /// `Throw` with the value that the code throws, `Stop` with what stops the job, and `NoMemory`.
     #[tactic(auto, unfolding(mt_eval_meaning::specs::Expressions::disjunction))]
     pub fn disjunction(
         &self,
@@ -198,7 +198,7 @@ impl<
     /// `test ? a : b`
     ///
     /// # Errors
-    /// As the code says, and `NoMemory`.
+    /// `Throw` with the value that the code throws, `Stop` with what stops the job, and `NoMemory`.
     #[tactic(auto, unfolding(mt_eval_meaning::specs::Expressions::conditional))]
     pub fn conditional(
         &self,
@@ -222,7 +222,7 @@ impl<
     /// `a[k]`
     ///
     /// # Errors
-    /// As the code says, and `NoMemory`.
+    /// `Throw` with the value that the code throws, `Stop` with what stops the job, and `NoMemory`.
     #[tactic(auto, unfolding(mt_eval_meaning::specs::Expressions::index))]
     pub fn index(
         &self,
@@ -244,7 +244,7 @@ impl<
     /// `a = e`: the base and the key of a target are evaluated before the value.
     ///
     /// # Errors
-    /// As the code says, and `NoMemory`.
+    /// `Throw` with the value that the code throws, `Stop` with what stops the job, and `NoMemory`.
     #[tactic(auto, unfolding(mt_eval_meaning::specs::Expressions::assignment))]
     pub fn assignment(
         &self,
@@ -267,7 +267,7 @@ impl<
     /// `a += e` and its like: the target is read before the operand is evaluated.
     ///
     /// # Errors
-    /// As the code says, and `NoMemory`.
+    /// `Throw` with the value that the code throws, `Stop` with what stops the job, and `NoMemory`.
     #[tactic(auto, unfolding(mt_eval_meaning::specs::Expressions::update))]
     pub fn update(
         &self,
@@ -293,7 +293,7 @@ impl<
     /// `++a`, `--a`, `a++` and `a--`
     ///
     /// # Errors
-    /// As the code says, and `NoMemory`.
+    /// `Throw` with the value that the code throws, `Stop` with what stops the job, and `NoMemory`.
     #[tactic(auto, unfolding(mt_eval_meaning::specs::Expressions::count))]
     pub fn step(
         &self,

@@ -197,7 +197,7 @@ impl<
     /// What an expression names as a target, whose base and key are evaluated.
     ///
     /// # Errors
-    /// As the code says, and `NoMemory`.
+    /// `Throw` with the value that the code throws, `Stop` with what stops the job, and `NoMemory`.
     #[tactic(auto, unfolding(mt_eval_meaning::specs::Slots::target))]
     pub fn target(
         &self,

@@ -36,7 +36,7 @@ impl<
     /// Evaluates a statement on a level that isn't above this one.
     ///
     /// # Errors
-    /// As the code says, and `NoMemory`.
+    /// `Throw` with the value that the code throws, `Stop` with what stops the job, and `NoMemory`.
     pub fn stmt(
         &self,
         calls: usize,
@@ -65,7 +65,7 @@ impl<
     /// Evaluates statements on a level that isn't above this one, one after another up to one that doesn't end normally.
     ///
     /// # Errors
-    /// As the code says, and `NoMemory`.
+    /// `Throw` with the value that the code throws, `Stop` with what stops the job, and `NoMemory`.
     pub fn sequence(
         &self,
         calls: usize,

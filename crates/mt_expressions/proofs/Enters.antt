@@ -14,7 +14,7 @@ use Rattle.mt_value.specs.declared.value.Value.{Value}
 use Rattle.mt_tree.specs.Limits.{depth_limit}
 
 module _ {H : Type 0} (functions : List Function) (host : Meaning H) (depth at : ℕ) (arguments : List Value) (s : State × H) where
-  -- what is done with the function, where so many calls may begin
+  -- what is done with the function, where that many calls may begin
   abbrev entered : ℕ → FunCell → Eval H Value
   entered zero f = λ s. leaves (exit.Stop stop.Depth) s
   entered (suc left) f = function_body functions (parts functions host left depth_limit) (slice_get functions f.function) f.captured at arguments

@@ -74,7 +74,7 @@ impl<
     /// The value of a body whose statements are of a level that isn't above this one: that of the `return` which ends it, else undefined.
     ///
     /// # Errors
-    /// As the code says, and `NoMemory`.
+    /// `Throw` with the value that the code throws, `Stop` with what stops the job, and `NoMemory`.
     #[tactic(auto, unfolding(mt_eval_meaning::specs::Slots::body))]
     pub fn body(
         &self,
@@ -134,7 +134,7 @@ impl<
     /// Calls the function in a cell.
     ///
     /// # Errors
-    /// `Throw` exactly where there is none, else the stop `Depth` exactly where no call is left, else as the code says, and `NoMemory`.
+    /// `Throw` exactly where there is none, else the stop `Depth` exactly where no call is left, else what its body throws or is stopped by, and `NoMemory`.
     #[tactic(auto, unfolding(mt_eval_meaning::specs::State::throw), using(crate::proofs::Enters::no_function, crate::proofs::Enters::no_call, crate::proofs::Enters::one_call))]
     pub fn enter(
         &self,

@@ -55,7 +55,7 @@ impl<
     /// The value of an expression.
     ///
     /// # Errors
-    /// As the code says, and `NoMemory`.
+    /// `Throw` with the value that the code throws, `Stop` with what stops the job, and `NoMemory`.
     #[tactic(auto, unfolding(mt_eval_meaning::specs::Slots::expr))]
     pub fn node(
         &self,

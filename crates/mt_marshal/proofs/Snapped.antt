@@ -29,7 +29,7 @@ use Rattle.mt_marshal.specs.declared.refusal.Refused.{Refused}
 use Rattle.mt_marshal.proofs.Levels.{datum_is}
 use Rattle.mt_marshal.proofs.Parts.{bytes_of_entries, bytes_of_items, bytes_of_one, depth_of_entries, depth_of_items, depth_of_one, nodes_of_entries, nodes_of_items, nodes_of_one}
 
--- ---- stores that begin alike
+-- ---- stores with the same beginning
 
 abbrev Extends : List Cell → List Cell → Type 0
 Extends store large = (more : List Cell) × (large ≡ store ++ more)

@@ -52,7 +52,7 @@ code_of tilde = record { cell = λ ds. code (record { tilde = tilde; values = ds
 abbrev pub frame_of : List ℕ → Making
 frame_of service = record { cell = λ ds. frame (record { service = service; arguments = ds }); value = λ at. value.Frame at }
 
--- where the store has so many cells
+-- where the store has that many cells
 abbrev pub outcome_of : Making → ℕ → Paid → Done
 outcome_of m cells (paid.Data ds) = done.Value (m.value cells)
 outcome_of m cells (paid.Stopped w) = done.Stop w

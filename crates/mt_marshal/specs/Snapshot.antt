@@ -65,7 +65,7 @@ module _ (store : List Cell) where
     unfoldable pub object : At
     object path at = all (map (entry (below (path ++ at ∷ []))) (properties_in (slice_get store at))) >>= λ entries. pure («data».Obj entries)
 
-  -- a value, in which so many arrays and objects may stand in one another
+  -- a value, in which that many arrays and objects may stand in one another
   unfoldable pub datum : ℕ → List ℕ → Value → Walk Data
   datum zero = node zero too_deep too_deep
   datum (suc levels) = node (suc levels) (array (datum levels)) (object (datum levels))

@@ -52,7 +52,7 @@ fn stands_on(path: &[Address], value: &Value) -> bool
     }
 }
 
-/// The lowest rule that a node breaks, where so many arrays and objects may stand in one another from it on.
+/// The lowest rule that a node breaks, where that many arrays and objects may stand in one another from it on.
 fn broken(levels: u32, path: &[Address], value: &Value, counts: Counts) -> Option<MarshalRule>
     ensures { result ≡ rules.broken levels path.now value.now counts }
 {

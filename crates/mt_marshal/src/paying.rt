@@ -22,7 +22,7 @@ pub(crate) enum Paid {
     Stopped(Stop),
 }
 
-/// Takes the steps of a walk where so many are left, and else none.
+/// Takes the steps of a walk where that many are left, and else none.
 fn pays(budget: &mut Budget, nodes: u64, bytes: u64) -> bool
     ensures enough { result ≡ nat_le (steps nodes bytes) budget.old.left }
     ensures left { budget.new.left ≡ (if nat_le (steps nodes bytes) budget.old.left then budget.old.left - steps nodes bytes else budget.old.left) }

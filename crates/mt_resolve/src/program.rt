@@ -175,7 +175,7 @@ fn service_named(
     }
 }
 
-// The slots as places of cells. No store has so many cells that a place doesn't fit.
+// The slots as places of cells. The place of each cell of a store fits.
 fn places(alloc: Global, kept: &[Slot]) -> Result<Row<u32>, NoMemory>
     ensures { IfOk result (λ places. places ≡ map (λ s. s.slot) kept.now) }
 {

@@ -107,7 +107,7 @@ pub fn slots(alloc: Global, scope: &[Slot]) -> Result<Row<usize>, NoMemory>
 /// The sum of two counts of slots.
 ///
 /// # Errors
-/// `NoMemory` where the sum doesn't fit: memory ends before there are so many slots.
+/// `NoMemory` where the sum doesn't fit: memory ends before there are that many slots.
 pub fn sum(a: usize, b: usize) -> Result<usize, NoMemory>
     ensures { IfOk result (λ n. n ≡ a + b) }
 {

@@ -68,14 +68,14 @@ exit_seen store exit.NoMemory = refl
 
 -- ---- from the run by names to the run on slots
 
-host_told : (text : List ℕ) (h g : Plain) → h ≡ g → (if h.beyond then unbuilt else failed text) ≡ (if g.beyond then unbuilt else failed text)
-host_told text h g same = ap (λ (x : Plain). if x.beyond then unbuilt else failed text) same
+host_reported : (text : List ℕ) (h g : Plain) → h ≡ g → (if h.beyond then unbuilt else failed text) ≡ (if g.beyond then unbuilt else failed text)
+host_reported text h g same = ap (λ (x : Plain). if x.beyond then unbuilt else failed text) same
 
-pub told : (tildes : List Tilde) (table : List Numbered) (items : List Stmt) (ran : Ran (State × Named Plain) Environment) (r : Ran (State × Plain) Value)
+pub reported : (tildes : List Tilde) (table : List Numbered) (items : List Stmt) (ran : Ran (State × Named Plain) Environment) (r : Ran (State × Plain) Value)
     → StartsAs tildes table items ran r → ending_of ran ≡ ending_on r
-told tildes table items ran (gives v s) (n, is, stands) = ap ending_of is ∙ ap (λ (x : Plain). if x.beyond then unbuilt else started x.log) stands.host
-told tildes table items ran (leaves e s) (n, is, stands) =
-    ap ending_of is ∙ host_told (exit_text n.0.store e) n.1.host s.1 stands.host
+reported tildes table items ran (gives v s) (n, is, stands) = ap ending_of is ∙ ap (λ (x : Plain). if x.beyond then unbuilt else started x.log) stands.host
+reported tildes table items ran (leaves e s) (n, is, stands) =
+    ap ending_of is ∙ host_reported (exit_text n.0.store e) n.1.host s.1 stands.host
     ∙ ap (λ (text : List ℕ). if s.1.beyond then unbuilt else failed text) (ap (λ (cells : List Cell). exit_text cells e) stands.store.cells ∙ exit_seen s.0.store e)
 
 -- the start of a program ends as its unit on slots
@@ -86,14 +86,14 @@ start_ending p code u stands is =
     let top : Some stands.top ≡ Some u = sym (ap (λ (us : List Unit'). slice_get us 0) stands.units) ∙ is in
     let same : stands.top ≡ u = cc in
     let file = subst (λ (x : Unit'). FileStands (around_file p) code.functions stands.table x p.items) same stands.file in
-    told p.tildes stands.table p.items _ _ (start_law (around_file p) code.functions stands.table plain stands.functions.stands u p.items file (empty_state, fresh) refl)
+    reported p.tildes stands.table p.items _ _ (start_law (around_file p) code.functions stands.table plain stands.functions.stands u p.items file (empty_state, fresh) refl)
 
--- what is told of the end of the unit's run is told of the start
-pub told_of_start : (p : Program) (code : Contents) (functions : List Function) (top : ℕ) (u : Unit') → ProgramStands p code → functions ≡ code.functions → top ≡ 0 → slice_get code.units top ≡ Some u
+-- what is reported of the end of the unit's run is reported of the start
+pub reported_of_start : (p : Program) (code : Contents) (functions : List Function) (top : ℕ) (u : Unit') → ProgramStands p code → functions ≡ code.functions → top ≡ 0 → slice_get code.units top ≡ Some u
     → (begin : State) (new : Plain) → begin ≡ empty_state → new ≡ fresh
     → (done : Done) (s : State) (host : Plain) → slots.unit functions plain u (begin, new) ≡ done_ran done (s, host)
     → (result : Result Startup NoMemory) → IfOk result (λ ended. EndsLike (ending_on (done_ran done (s, host))) ended) → IfOk result (λ ended. EndsLike (ending_of (start_of p)) ended)
-told_of_start p code functions top u stands same first is begin new empty none done s host ran result ended =
+reported_of_start p code functions top u stands same first is begin new empty none done s host ran result ended =
     let unit : slice_get code.units 0 ≡ Some u = ap (λ n. slice_get code.units n) (sym first) ∙ is in
     let here : slots.unit code.functions plain u (empty_state, fresh) ≡ done_ran done (s, host) =
     ap₂ (λ (x : State) (h : Plain). slots.unit code.functions plain u (x, h)) (sym empty) (sym none)

@@ -28,7 +28,7 @@ one_ending text x y (p, is_p, unbroken_p, ends_p) (q, is_q, unbroken_q, ends_q) 
 pub none_refused : (text : List ℕ) (x : Ending) → StartsAs text x → IsNotAcceptedText text → ⊥
 none_refused text x (p, is, unbroken, ends) none = none p is unbroken
 
--- what is told of the program's start is told of its text
+-- what is reported of the program's start is reported of its text
 pub of_program : (text : List ℕ) (p : Program) → IsSourceOf text p → broken_places p ≡ [] → (result : Result Startup NoMemory)
     → IfOk result (λ ended. EndsLike (ending_of (start_of p)) ended) → IfOk result (λ ended. StartMeans text ended)
 of_program text p is unbroken (Ok (Started log)) ends = (p, is, unbroken, ends)

@@ -27,7 +27,7 @@ empty_state = record { store = []; globals = []; budget = step_limit }
 unfoldable pub start_of : Program → Ran (State × Named Plain) Environment
 start_of program = file (server_surroundings program) plain program.items (empty_state, record { host = fresh; closures = [] })
 
--- ---- what is told of it
+-- ---- what is reported of it
 
 pub data Ending : Type 0 where
   -- the end was reached, with these lines in the log
@@ -60,7 +60,7 @@ ending_on (leaves x s) = if s.1.beyond then unbuilt else failed (exit_text s.0.s
 abbrev pub StartsAs : List ℕ → Ending → Type 0
 StartsAs text ending = (program : Program) × IsSourceOf text program × (broken_places program ≡ []) × (ending_of (start_of program) ≡ ending)
 
--- what is told of an ending
+-- what is reported of an ending
 abbrev pub EndsLike : Ending → Startup → Type 0
 EndsLike ending (Started log) = ending ≡ started log.items
 EndsLike ending (Failed error) = ending ≡ failed error

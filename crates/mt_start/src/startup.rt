@@ -65,11 +65,11 @@ fn start_program(alloc: Global, program: &Program) -> Result<Startup, NoMemory>
         &mut host,
         &mut budget,
     )?;
-    told(alloc, done, &store, &host)
+    reported(alloc, done, &store, &host)
 }
 
-// What is told of the end of an evaluation.
-fn told(alloc: Global, done: Done, store: &Store, host: &PlainHost) -> Result<Startup, NoMemory>
+// What is reported of the end of an evaluation.
+fn reported(alloc: Global, done: Done, store: &Store, host: &PlainHost) -> Result<Startup, NoMemory>
     ensures { (s : State) → s.store ≡ store.now → IfOk result (λ ended. EndsLike (ending_on (done_ran done (s, host.now))) ended) }
 {
     if host.is_beyond() {

@@ -80,7 +80,7 @@ impl<
     /// Evaluates a statement.
     ///
     /// # Errors
-    /// As the code says, and `NoMemory`.
+    /// `Throw` with the value that the code throws, `Stop` with what stops the job, and `NoMemory`.
     #[tactic(auto, unfolding(mt_eval_meaning::specs::Slots::stmt))]
     pub fn node(
         &self,

@@ -11,14 +11,14 @@ use mt_value::{Globals, Store};
 use rows::{Line, made};
 use std::alloc::Global;
 
-/// The top of an application, evaluated with so many steps.
+/// The top of an application, evaluated with that many steps.
 pub fn evaluated(alloc: Global, line: &Line) -> Result<String> {
     let steps = u64::try_from(line.number(1)?)?;
     let ended = sources::evaluated(alloc, line.text(0)?, steps)?;
     shown::done(alloc, &ended.store, &ended.done, ended.budget.left)
 }
 
-/// The first operand called with the others, with so many steps.
+/// The first operand called with the others, with that many steps.
 pub fn called(alloc: Global, line: &Line) -> Result<String> {
     let (mut evaluated, values) = operands(alloc, line, 0)?;
     let [function, arguments @ ..] = values.as_slice() else {
@@ -42,7 +42,7 @@ pub fn called(alloc: Global, line: &Line) -> Result<String> {
     shown::done(alloc, &evaluated.store, &done, budget.left)
 }
 
-/// One step and so many more, taken of so many.
+/// One step and that many more, taken of the steps that are left.
 pub fn spent(alloc: Global, line: &Line) -> Result<String> {
     let mut state = State {
         store: Store::new(alloc),

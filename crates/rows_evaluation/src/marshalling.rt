@@ -42,7 +42,7 @@ fn text(alloc: Global, data: &Row<Data>) -> Result<String> {
     Ok(String::from_str(alloc, str::from_utf8(text.as_slice())?)?)
 }
 
-/// Client code of a tilde and the operands, made with so many steps.
+/// Client code of a tilde and the operands, made with that many steps.
 pub fn elaborated(alloc: Global, line: &Line) -> Result<String> {
     let (mut evaluated, values) = operands(alloc, line, 0)?;
     let tilde = u32::try_from(line.number(2)?)?;

@@ -42,7 +42,7 @@ fn of_program(alloc: Global, program: &Program) -> Result<Units>
     made(resolve(alloc, program))
 }
 
-/// Evaluates the top of an application with so many steps.
+/// Evaluates the top of an application with that many steps.
 pub fn evaluated(alloc: Global, source: &str, steps: u64) -> Result<Ended> {
     ensure!(source.len() <= SOURCE_LIMIT, "too long");
     let checked = made(read_source(alloc, source.as_bytes()))?;

@@ -30,10 +30,10 @@ fn answer(alloc: Global, line: &Line) -> Result<String> {
         bail!("no such call");
     }
     let mut page = Page::new(alloc)?;
-    let mut told = String::new(alloc);
+    let mut reported = String::new(alloc);
     for at in 0..line.arguments().len() {
-        let word = page.told(alloc, line.text(at)?)?;
-        add(&mut told, word.as_str())?;
+        let word = page.reported(alloc, line.text(at)?)?;
+        add(&mut reported, word.as_str())?;
     }
-    Ok(told)
+    Ok(reported)
 }

@@ -47,7 +47,7 @@ impl Page {
 
     /// How a code ends that runs on the page, the value of the global variable whose name stands behind `?`, or how its call ends where the
     /// name stands behind `!`.
-    pub fn told(&mut self, alloc: Global, text: &str) -> Result<String>
+    pub fn reported(&mut self, alloc: Global, text: &str) -> Result<String>
         requires { IsPage self.old.units }
         ensures { IsPage self.new.units }
     {

@@ -13,7 +13,7 @@ const APPLICATION: &[u8] = b"1; 1; ; ; var i = 0; while (i < 142855) { i += 1; }
 /// The number of starts, where no word says one.
 const STARTS: u32 = 1;
 
-// How many of so many starts reach their end.
+// How many of that many starts reach their end.
 fn reached(alloc: Global, starts: u32) -> Result<u32, NoMemory> {
     let mut reached: u32 = 0;
     for _start in 0..starts {

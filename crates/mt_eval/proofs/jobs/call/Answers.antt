@@ -1,5 +1,5 @@
 use Rattle.mt_eval.specs.Jobs.{state}
-use Rattle.mt_eval.proofs.Alike.{call_by_names}
+use Rattle.mt_eval.proofs.ByNames.{call_by_names}
 use Rattle.mt_eval.proofs.jobs.call.Goals as goal
 
 pub returns-clause-by_names : goal.returns-clause-by_names

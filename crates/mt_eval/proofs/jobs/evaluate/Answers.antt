@@ -1,5 +1,5 @@
 use Rattle.mt_eval.specs.Jobs.{state}
-use Rattle.mt_eval.proofs.Alike.{client_code_by_names, file_by_names}
+use Rattle.mt_eval.proofs.ByNames.{client_code_by_names, file_by_names}
 use Rattle.mt_eval.proofs.jobs.evaluate.Goals as goal
 
 pub returns-clause-file : goal.returns-clause-file

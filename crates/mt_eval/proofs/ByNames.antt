@@ -32,8 +32,8 @@ module _ {H : Type 0} (tildes : List Tilde) (table : List Numbered) (store : Lis
     ends_by (done.Throw v) ends = ends
     ends_by (done.Stop w) ends = ends
 
-    pub ends_alike : (r : Ran (State × H) Value) (ending : Done) → EndsAs tildes table ran r → Ends r ending store globals host left → EndsByNames tildes table ran ending store globals host left
-    ends_alike r ending ends is = ends_by ending (subst (λ (x : Ran (State × H) Value). EndsAs tildes table ran x) is ends)
+    pub ends_by_names : (r : Ran (State × H) Value) (ending : Done) → EndsAs tildes table ran r → Ends r ending store globals host left → EndsByNames tildes table ran ending store globals host left
+    ends_by_names r ending ends is = ends_by ending (subst (λ (x : Ran (State × H) Value). EndsAs tildes table ran x) is ends)
 
   module _ (items : List Stmt) (ran : Ran (State × Named H) Environment) where
     starts_by : (ending : Done) → StartsAs tildes table items ran (done_ran ending (state store globals left, host)) → StartsByNames tildes table items ran ending store globals host left
@@ -41,8 +41,8 @@ module _ {H : Type 0} (tildes : List Tilde) (table : List Numbered) (store : Lis
     starts_by (done.Throw v) starts = starts
     starts_by (done.Stop w) starts = starts
 
-    pub starts_alike : (r : Ran (State × H) Value) (ending : Done) → StartsAs tildes table items ran r → Ends r ending store globals host left → StartsByNames tildes table items ran ending store globals host left
-    starts_alike r ending starts is = starts_by ending (subst (λ (x : Ran (State × H) Value). StartsAs tildes table items ran x) is starts)
+    pub starts_by_names : (r : Ran (State × H) Value) (ending : Done) → StartsAs tildes table items ran r → Ends r ending store globals host left → StartsByNames tildes table items ran ending store globals host left
+    starts_by_names r ending starts is = starts_by ending (subst (λ (x : Ran (State × H) Value). StartsAs tildes table items ran x) is starts)
 
 -- ---- of what a call answers
 
@@ -51,7 +51,7 @@ module _ {H : Type 0} (around : Surroundings) (functions : List Function) (table
       → IfOk result (λ ending. Ends (slots.unit functions host u begin) ending store globals after left)
       → IfOk result (λ ending. StartsByNames around.tildes table items (file (keeping_whole around) host items (without_functions begin)) ending store globals after left)
   file_by_names u items code empty (Ok ending) is =
-      starts_alike around.tildes table store globals after left items (file (keeping_whole around) host items (without_functions begin)) (slots.unit functions host u begin) ending (start_law around functions table host stands u items code begin empty) is
+      starts_by_names around.tildes table store globals after left items (file (keeping_whole around) host items (without_functions begin)) (slots.unit functions host u begin) ending (start_law around functions table host stands u items code begin empty) is
   file_by_names u items code empty (Err e) is = tt
 
   pub client_code_by_names : (u : Unit') (items : List Stmt) → ClientCodeStands around functions table u items → (n : State × Named H) → StateStands around.tildes table begin n → (result : Result Done NoMemory)
@@ -59,7 +59,7 @@ module _ {H : Type 0} (around : Surroundings) (functions : List Function) (table
       → IfOk result (λ ending. EndsByNames around.tildes table (client_code (keeping_whole around) host items n) ending store globals after left)
   client_code_by_names u items code n now (Ok ending) is =
       let law = client_law around functions table host stands u items code in
-      ends_alike around.tildes table store globals after left (client_code (keeping_whole around) host items n) (slots.unit functions host u begin) ending (law.ends begin n now) is
+      ends_by_names around.tildes table store globals after left (client_code (keeping_whole around) host items n) (slots.unit functions host u begin) ending (law.ends begin n now) is
   client_code_by_names u items code n now (Err e) is = tt
 
   pub call_by_names : (f : Value) (arguments : List Value) (n : State × Named H) → StateStands around.tildes table begin n → (result : Result Done NoMemory)
@@ -67,5 +67,5 @@ module _ {H : Type 0} (around : Surroundings) (functions : List Function) (table
       → IfOk result (λ ending. EndsByNames around.tildes table (called (keeping_whole around) host f arguments n) ending store globals after left)
   call_by_names f arguments n now (Ok ending) is =
       let law = called_law around functions table host stands f arguments in
-      ends_alike around.tildes table store globals after left (called (keeping_whole around) host f arguments n) (slots.called functions host f arguments begin) ending (law.ends begin n now) is
+      ends_by_names around.tildes table store globals after left (called (keeping_whole around) host f arguments n) (slots.called functions host f arguments begin) ending (law.ends begin n now) is
   call_by_names f arguments n now (Err e) is = tt
