@@ -14,9 +14,9 @@ use Rattle.mt_grammar.specs.Nodes.{Node, Nodes, names_nodes, title_nodes, key_no
 use Rattle.mt_grammar.specs.Nodes as n
 use Rattle.mt_grammar.specs.Stack.{Frame, Focus}
 use Rattle.mt_grammar.specs.Stack as f
-use Rattle.mt_grammar.specs.Grammar.{mark, tag_mark, level_of, sign_of, step_before, step_after, needs_value, Reads, r_assign, r_up, r_condition, r_operation, r_unary, r_step_before, r_step_after, r_dot, r_index, r_call_none, r_call, r_name, r_number, r_text, r_constant, r_paren, r_array_none, r_array, r_array_comma, r_object_none, r_object, r_object_comma, r_function, r_tilde, r_dollar, r_element, ReadsList, first_expr, next_expr, ReadsProps, first_prop, next_prop, ReadsFunction, function_of, ReadsTilde, tilde_of, ReadsDollar, dollar_of, ReadsElement, e_self, e_void, e_children, ReadsAttribute, a_plain, a_quoted, a_tilde, a_dollar, ReadsAttributes, no_attribute, next_attribute, ReadsChild, c_text, c_element, c_tilde, c_dollar, ReadsChildren, no_child, next_child, ReadsDecl, d_only, d_as, ReadsDecls, first_decl, next_decl, ReadsOptional, o_absent, o_present, ReadsStart, f_optional, f_vars, ReadsBlock, block_of, ReadsBody, b_block, b_single, ReadsStmt, s_var, s_if, s_if_else, s_while, s_for, s_return, s_return_value, s_jump, s_throw, s_try, s_block, s_empty, s_expression, ReadsStmts, no_stmt, next_stmt, ReadsItem, i_function, i_statement, ReadsItems, no_item, next_item, IsProgram}
+use Rattle.mt_grammar.specs.Grammar.{mark, tag_mark, precedence_of, sign_of, step_before, step_after, needs_value, Reads, r_assign, r_up, r_condition, r_operation, r_unary, r_step_before, r_step_after, r_dot, r_index, r_call_none, r_call, r_name, r_number, r_text, r_constant, r_paren, r_array_none, r_array, r_array_comma, r_object_none, r_object, r_object_comma, r_function, r_tilde, r_dollar, r_element, ReadsList, first_expr, next_expr, ReadsProps, first_prop, next_prop, ReadsFunction, function_of, ReadsTilde, tilde_of, ReadsDollar, dollar_of, ReadsElement, e_self, e_void, e_children, ReadsAttribute, a_plain, a_quoted, a_tilde, a_dollar, ReadsAttributes, no_attribute, next_attribute, ReadsChild, c_text, c_element, c_tilde, c_dollar, ReadsChildren, no_child, next_child, ReadsDecl, d_only, d_as, ReadsDecls, first_decl, next_decl, ReadsOptional, o_absent, o_present, ReadsStart, f_optional, f_vars, ReadsBlock, block_of, ReadsBody, b_block, b_single, ReadsStmt, s_var, s_if, s_if_else, s_while, s_for, s_return, s_return_value, s_jump, s_throw, s_try, s_block, s_empty, s_expression, ReadsStmts, no_stmt, next_stmt, ReadsItem, i_function, i_statement, ReadsItems, no_item, next_item, IsProgram}
 use Rattle.mt_grammar.specs.Machine.{Next, at, awaits_at, binding, takes_items, settled, dollar_settled, function_closed, kind_of, run, parsed}
-use Rattle.mt_grammar.proofs.Levels.{Stops, level_between}
+use Rattle.mt_grammar.proofs.Precedence.{Stops, precedence_between}
 use Rattle.mt_grammar.proofs.Steps.{shift_on, reduce, Stops-less, closes, Stops-any, no_question, operand_at, first_at, word_at, statement_at, body_at, finished_at, close_at, if_true, if_false}
 use Rattle.mt_grammar.proofs.Starts.{starts, list_starts, first_operand, statement_operand}
 use Rattle.mt_grammar.proofs.Parts.{stop_end, ended, Ends-stops, stopped, declared_ends, next_declared, parameter_list, head_focus, HeadTakes, head, key_read, Lists, in_arguments, in_array, Holds, in_block, HoldsItems, in_program, in_function, in_tilde, single, else_done, while_done, for_done, try_done, if_done, stmt_some, body_single, settled_value, dollar_value, bytes_same, head_operand, head_statement, takes_any, takes_item, expression_closed, item_closed, prefix_taken, LeavesOut, at_start, at_test, at_step, Listed, Keyed, Declared, return_ends, tilde_is, element_is}
@@ -37,10 +37,10 @@ mutual
       reads da x fs out (omega arith) (omega arith) ∙ shift_on k.Question q mid s (is_target a) x fs o (omega arith) low hq
       ∙ reads db (f.CondTest s) (x ∷ fs) o (omega arith) (closes k.Colon c last refl hc) ∙ close_at k.Colon c last (place_of mid) (is_target b) (f.CondTest s) (x ∷ fs) o2 refl (omega arith) hc
       ∙ reads dd (f.CondElse s) (x ∷ fs) o2 (omega arith) (no_question rest stops) ∙ reduce rest 0 (place_of last) (is_target d) (f.CondElse s) (x ∷ fs) (expr_nodes d o2) (λ y h. le-leb _ _ h) (no_question rest stops)
-  reads (r_operation {l} {ts} {mid} {rest} {t} {a} {b} o level da q db) x fs out low stops =
+  reads (r_operation {l} {ts} {mid} {rest} {t} {a} {b} o precedence da q db) x fs out low stops =
       let s = place_of ts in let out' = expr_nodes a out in
-      let sign : binding (terminal t) ≡ level_of o = ap binding q in
-      let some = (level_between o).0 in
+      let sign : binding (terminal t) ≡ precedence_of o = ap binding q in
+      let some = (precedence_between o).0 in
       reads da x fs out low (omega arith) ∙ shift_on (k.Infix o) t mid s (is_target a) x fs out' (omega arith) (omega arith) q
       ∙ reads db (f.Operation o s) (x ∷ fs) out' (omega arith) (Stops-less l (suc l) rest (omega arith) stops)
       ∙ reduce rest l (place_of mid) (is_target b) (f.Operation o s) (x ∷ fs) (expr_nodes b out') (λ y h. le-leb _ _ (omega arith)) stops

@@ -14,7 +14,7 @@ use Rattle.mt_grammar.specs.Stack as f
 use Rattle.mt_grammar.specs.Grammar.{mark, NotNext}
 use Rattle.mt_grammar.specs.Machine.{Next, at, awaits, settled, dollar_settled, run}
 use Rattle.mt_grammar.proofs.Open.{Want, a_value, a_word, an_end, wants, takes_stmt, takes_block, holds_code, head_wants}
-use Rattle.mt_grammar.proofs.Levels.{Stops}
+use Rattle.mt_grammar.proofs.Precedence.{Stops}
 use Rattle.mt_grammar.proofs.Steps.{shift_on, reduce}
 use Rattle.mt_grammar.proofs.Parts.{single, else_done, while_done, for_done, try_done, if_done, bytes_same}
 use Rattle.mt_grammar.proofs.Rows.{value_is}

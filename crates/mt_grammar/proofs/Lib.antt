@@ -1,4 +1,4 @@
-pub mod Levels
+pub mod Precedence
 pub mod Steps
 pub mod Starts
 pub mod Parts

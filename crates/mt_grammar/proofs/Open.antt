@@ -21,7 +21,7 @@ use Rattle.mt_grammar.specs.Nodes.{Nodes, names_nodes, title_nodes, key_node, ex
 use Rattle.mt_grammar.specs.Nodes as n
 use Rattle.mt_grammar.specs.Stack.{Frame, Focus}
 use Rattle.mt_grammar.specs.Stack as f
-use Rattle.mt_grammar.specs.Grammar.{mark, tag_mark, level_of, sign_of, step_before, step_after, begins_expression, begins_single, First, is_expression, ReadsNames, Parameters, Head, IsKey, Reads, ReadsList, ReadsProps, ReadsAttributes, ReadsChildren, ReadsDecls, ReadsOptional, ReadsStart, ReadsBlock, ReadsBody, ReadsStmt, ReadsStmts, ReadsItem, ReadsItems}
+use Rattle.mt_grammar.specs.Grammar.{mark, tag_mark, precedence_of, sign_of, step_before, step_after, begins_expression, begins_single, First, is_expression, ReadsNames, Parameters, Head, IsKey, Reads, ReadsList, ReadsProps, ReadsAttributes, ReadsChildren, ReadsDecls, ReadsOptional, ReadsStart, ReadsBlock, ReadsBody, ReadsStmt, ReadsStmts, ReadsItem, ReadsItems}
 use Rattle.mt_grammar.specs.Machine.{Next, awaits_at, kind_of}
 
 pub data Want : Type 0 where
@@ -217,8 +217,8 @@ module _ (all : Tokens) where
     o_function_brace : {x : Frame} {fs : List Frame} {out : Nodes} {h : Title} {begin list ts : Tokens} {ns : Names} → Open (x ∷ fs) out begin → wants x ≡ head_wants (heading_of h) → Head h begin list → Parameters list ts ns
         → Open (f.FunctionBrace (heading_of h) (place_of begin) (names_count ns) ∷ x ∷ fs) (names_nodes ns (title_nodes h out)) ts
     o_paren : {x : Frame} {fs : List Frame} {out : Nodes} {o : Token} {ts : Tokens} → Open (x ∷ fs) out (o ∷ ts) → wants x ≡ a_value → terminal o ≡ k.Open → Open (f.Paren o.place ∷ x ∷ fs) out ts
-    o_operation : {x : Frame} {fs : List Frame} {out : Nodes} {mid ts : Tokens} {t : Token} {a : Expr} (o : Infix) → Open (x ∷ fs) out mid → wants x ≡ a_value → awaits_at x ≤ level_of o
-        → Reads (level_of o) mid (t ∷ ts) a → terminal t ≡ k.Infix o → Open (f.Operation o (place_of mid) ∷ x ∷ fs) (expr_nodes a out) ts
+    o_operation : {x : Frame} {fs : List Frame} {out : Nodes} {mid ts : Tokens} {t : Token} {a : Expr} (o : Infix) → Open (x ∷ fs) out mid → wants x ≡ a_value → awaits_at x ≤ precedence_of o
+        → Reads (precedence_of o) mid (t ∷ ts) a → terminal t ≡ k.Infix o → Open (f.Operation o (place_of mid) ∷ x ∷ fs) (expr_nodes a out) ts
     o_unary : {x : Frame} {fs : List Frame} {out : Nodes} {t : Token} {ts : Tokens} (u : Unary) → Open (x ∷ fs) out (t ∷ ts) → wants x ≡ a_value → awaits_at x ≤ 8 → terminal t ≡ sign_of u
         → Open (f.Unary u t.place ∷ x ∷ fs) out ts
     o_step_before : {x : Frame} {fs : List Frame} {out : Nodes} {t : Token} {ts : Tokens} (d : StepSign) → Open (x ∷ fs) out (t ∷ ts) → wants x ≡ a_value → awaits_at x ≤ 8 → terminal t ≡ k.Step d

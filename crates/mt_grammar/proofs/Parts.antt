@@ -21,7 +21,7 @@ use Rattle.mt_grammar.specs.Stack.{Frame, Focus}
 use Rattle.mt_grammar.specs.Stack as f
 use Rattle.mt_grammar.specs.Grammar.{mark, sign_of, NotNext, begins_single, First, needs_value, is_expression, Ends, semicolon, before_brace, ReadsNames, first_name, next_name, Parameters, no_parameters, parameters, Head, h_service, h_declaration, h_named, h_expression, IsKey, key_word, key_text, ReadsTilde, tilde_of, ReadsElement, e_self, e_void, e_children, ReadsBlock, block_of, ReadsStmt, s_var, s_if, s_if_else, s_while, s_for, s_return, s_return_value, s_jump, s_throw, s_try, s_block, s_empty, s_expression}
 use Rattle.mt_grammar.specs.Machine.{Next, at, awaits_at, binding, reduces, takes_items, settled, dollar_settled, function_closed, kind_of, operand_by, item_by, else_or, ended_by, declared_by, first_by, word_by, stop_by, shift_by, run}
-use Rattle.mt_grammar.proofs.Levels.{Stops}
+use Rattle.mt_grammar.proofs.Precedence.{Stops}
 use Rattle.mt_grammar.proofs.Steps.{closes, operand_at, word_at, statement_at, finished_at, close_at, if_true, if_false}
 use Rattle.mt_grammar.proofs.Starts.{Starts, starts, first_operand, body_is}
 

@@ -1,4 +1,4 @@
--- What holds of rows, of frames and of levels, apart from where the machine stands.
+-- What holds of rows, of frames and of precedences, apart from where the machine stands.
 use Rattle.std.proofs.Common.{◌≡◌, ℕ, zero, suc, ◌+◌, ◌-◌, ◌≤◌, true, ◌∷◌, refl, sym, ap, subst, arith}
 use Rattle.mt_tree.specs.declared.operators.VarKind.{VarKind}
 use Rattle.mt_grammar.specs.declared.terminal.Terminal.TheVariants as k
@@ -9,13 +9,13 @@ use Rattle.mt_grammar.specs.Grammar.{Head, h_service, h_declaration, h_named, Is
 use Rattle.mt_grammar.specs.Tree.{Title, Key, Expr, Exprs, exprs_and, Props, no_props, props_and, Decl, Decls, decls_and}
 use Rattle.mt_grammar.specs.Machine.{awaits_at}
 use Rattle.mt_grammar.proofs.Open.{Want, a_value, wants, is_value, holds_code, holds_element, Named, n_service, n_declaration, n_expression, SomeExprs, no_expr, some_exprs, SomeProps, no_prop, some_props, SomeDecls, no_decl, some_decls}
-use Rattle.mt_grammar.proofs.Levels.{level_between}
+use Rattle.mt_grammar.proofs.Precedence.{precedence_between}
 
 pub lower : (m l h : ℕ) {ts rest : Tokens} {e : Expr} → h ≡ l + m → Reads h ts rest e → Reads l ts rest e
 lower zero l h {ts} {rest} {e} p d = subst (λ (i : ℕ). Reads i ts rest e) (omega arith) d
 lower (suc m) l h p d = r_up (lower m (suc l) h (omega arith) d)
 
--- what holds for a level holds below it
+-- what holds for a precedence holds below it
 pub down : (l m : ℕ) {ts rest : Tokens} {e : Expr} → l ≤ m → Reads m ts rest e → Reads l ts rest e
 down l m h d = lower (m - l) l m (omega arith) d
 
@@ -46,7 +46,7 @@ value_is _ h = absurd cc
 
 -- an expression is read only above a frame that wants one
 pub value_low : (x : Frame) → wants x ≡ a_value → awaits_at x ≤ 10
-value_low (f.Operation o s) h = let b = (level_between o).1 in omega arith
+value_low (f.Operation o s) h = let b = (precedence_between o).1 in omega arith
 value_low (f.Unary u p) h = omega arith
 value_low (f.StepBefore d p) h = omega arith
 value_low (f.StepAfter d s) h = absurd cc

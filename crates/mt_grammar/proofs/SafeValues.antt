@@ -11,11 +11,11 @@ use Rattle.mt_grammar.specs.Token.{Token, Tokens, place_of, terminal}
 use Rattle.mt_grammar.specs.Nodes.{Nodes, expr_nodes}
 use Rattle.mt_grammar.specs.Stack.{Frame, Focus}
 use Rattle.mt_grammar.specs.Stack as f
-use Rattle.mt_grammar.specs.Grammar.{mark, level_of, step_before, step_after, Reads, r_assign, r_condition, r_operation, r_unary, r_step_before, r_step_after, r_index, r_call, r_paren, r_array, r_object, dollar_of, d_as, o_present, f_optional, s_return_value, s_throw, s_expression}
+use Rattle.mt_grammar.specs.Grammar.{mark, precedence_of, step_before, step_after, Reads, r_assign, r_condition, r_operation, r_unary, r_step_before, r_step_after, r_index, r_call, r_paren, r_array, r_object, dollar_of, d_as, o_present, f_optional, s_return_value, s_throw, s_expression}
 use Rattle.mt_grammar.specs.Tree.{Expr, array, object, unary, step, operation, condition, assign, index, call, exprs_and, props_and, decl_as, decls_and, present, start_optional, expression, return, throw, is_target}
 use Rattle.mt_grammar.specs.Machine.{at, awaits_at, binding, made_at, stop_by, close_by, shift_by, value_by}
 use Rattle.mt_grammar.proofs.Open.{a_value, an_end, wants, no_expr, some_exprs, some_props, Open, o_if_test, o_if_then, o_while_test, o_while_body, o_for_start, o_for_test, o_for_step, o_for_body, o_decl_value, o_return, o_throw, o_statement, o_paren, o_operation, o_unary, o_step_before, o_step_after, o_assign, o_cond_test, o_cond_else, o_dot, o_index, o_arguments, o_array, o_object_key, o_object_value, o_dollar, g_body, g_operand, g_first, g_word, g_value, g_stepped, Safe}
-use Rattle.mt_grammar.proofs.Levels.{level_between, bound}
+use Rattle.mt_grammar.proofs.Precedence.{precedence_between, bound}
 use Rattle.mt_grammar.proofs.Rows.{down, with_expr, with_prop, with_decl}
 use Rattle.mt_grammar.proofs.SafeStatements.{either_way, or_refused, dollar_done, ended_safe, declared_safe}
 
@@ -91,7 +91,7 @@ module _ (all : Tokens) where
   shift_safe ts t k.Open l q d w de g b h r = g_first (o_arguments d w (down 10 l (omega arith) de) q no_expr) refl
   shift_safe ts t (k.Assign o) l q d w de g b h r = assign_safe o _ g q d w (down 10 l (omega arith) de) r
   shift_safe ts t (k.Step s) l q d w de g b h r = step_safe s _ g q d w (down 10 l (omega arith) de) r
-  shift_safe ts t (k.Infix o) l q d w de g b h r = g_operand (o_operation o d w r (down (level_of o) l b de) q) refl
+  shift_safe ts t (k.Infix o) l q d w de g b h r = g_operand (o_operation o d w r (down (precedence_of o) l b de) q) refl
   shift_safe ts t k.Question l q d w de g b h r = g_operand (o_cond_test d w r (down 2 l b de) q) refl
   shift_safe {x} {fs} {out} {e} ts t k.Colon l q d w de g b h r = subst (λ (v : Bool). Safe all (close_by t k.Colon v x fs (expr_nodes e out)) ts) g (at_colon ts t q d (down 0 l b de))
   shift_safe {x} {fs} {out} {e} ts t k.Close l q d w de g b h r = subst (λ (v : Bool). Safe all (close_by t k.Close v x fs (expr_nodes e out)) ts) g (at_close ts t q d (down 0 l b de))
@@ -110,16 +110,16 @@ module _ (all : Tokens) where
   both true b h = (refl, h)
   both false b h = absurd cc
 
-  pub level_small : (o : Infix) → level_of o ≤ 10
-  level_small o = let b = (level_between o).1 in omega arith
+  pub precedence_small : (o : Infix) → precedence_of o ≤ 10
+  precedence_small o = let b = (precedence_between o).1 in omega arith
 
   pub value_safe : {x : Frame} {fs : List Frame} {out : Nodes} {mid : Tokens} {v : Bool} (ts : Tokens) (t : Token) (l : ℕ) → Open all (x ∷ fs) out mid → wants x ≡ a_value → (e : Expr) → Reads l mid (t ∷ ts) e
       → is_target e ≡ v → awaits_at x ≤ l → binding (terminal t) ≤ l → l ≤ 10 → Safe all (value_by t (terminal t) (place_of mid) v (x ∷ fs) (expr_nodes e out)) ts
   unfolding expr_nodes
   value_safe ts t l (o_operation {mid = begin} {a} o d wx low da q) w e de g aw bl h =
       either_way all _ _ _ ts
-      (λ r. let z : binding (terminal t) ≤ level_of o = leb-true _ _ r in
-      value_safe ts t (level_of o) d wx (operation (place_of begin) o a e) (r_operation o refl da q (down (suc (level_of o)) l (omega arith) de)) refl low z (level_small o))
+      (λ r. let z : binding (terminal t) ≤ precedence_of o = leb-true _ _ r in
+      value_safe ts t (precedence_of o) d wx (operation (place_of begin) o a e) (r_operation o refl da q (down (suc (precedence_of o)) l (omega arith) de)) refl low z (precedence_small o))
       (λ r. past ts t l (o_operation o d wx low da q) w de g bl h)
   value_safe ts t l (o_unary {t = m} u d wx low q) w e de g aw bl h =
       either_way all _ _ _ ts

@@ -7,7 +7,7 @@ use Rattle.mt_grammar.specs.Grammar.{mark, b_single, s_if, s_if_else, s_while, s
 use Rattle.mt_grammar.specs.Tree.{Stmt, if_only, if_else, while, for, try, block, Stmts, no_stmts, stmts_and}
 use Rattle.mt_grammar.specs.Machine.{Next, feed_by, end_finished, end_statement, end_by, run, after, start, parsed}
 use Rattle.mt_grammar.proofs.Open.{Open, o_program, o_single, o_if_then, o_if_else, o_while_body, o_for_body, o_catch_block, g_statement, g_body, g_operand, g_first, g_word, g_value, g_stepped, g_finished, Good, Safe}
-use Rattle.mt_grammar.proofs.Levels.{bound}
+use Rattle.mt_grammar.proofs.Precedence.{bound}
 use Rattle.mt_grammar.proofs.Rows.{value_low}
 use Rattle.mt_grammar.proofs.SafeStatements.{operand_safe, fits_stmt, as_body, statement_safe, body_safe, FitsTop, finished_safe}
 use Rattle.mt_grammar.proofs.SafeWords.{first_safe, word_safe}

@@ -9,11 +9,11 @@ use Rattle.mt_grammar.specs.Token.{Token, Tokens, nowhere, open_name, close_name
 use Rattle.mt_grammar.specs.Nodes.{Nodes}
 use Rattle.mt_grammar.specs.Stack.{Frame, Focus}
 use Rattle.mt_grammar.specs.Stack as f
-use Rattle.mt_grammar.specs.Grammar.{level_of, is_expression}
+use Rattle.mt_grammar.specs.Grammar.{precedence_of, is_expression}
 use Rattle.mt_grammar.specs.Machine.{awaits_at}
 use Rattle.mt_grammar.proofs.Open.{Want, an_item, a_statement, a_body, a_value, wants, takes_stmt, takes_block, holds_code, holds_element, leaves_out, head_wants, Open, o_program, o_block, o_body, o_tilde, o_single, o_if_open, o_if_test, o_if_then, o_if_else, o_while_open, o_while_test, o_while_body, o_for_open, o_for_start, o_for_test, o_for_step, o_for_body, o_decl_name, o_decl_next, o_decl_value, o_return, o_jump, o_throw, o_statement, o_try_open, o_try_block, o_catch_open, o_catch_name, o_catch_close, o_catch_brace, o_catch_block, o_function_start, o_function_name, o_function_open, o_function_first, o_function_next, o_parameter_name, o_function_brace, o_paren, o_operation, o_unary, o_step_before, o_step_after, o_assign, o_cond_test, o_cond_else, o_dot, o_index, o_arguments, o_array, o_object_key, o_object_colon, o_object_value, o_dollar, o_attributes, o_attribute_name, o_attribute_value, o_children}
 use Rattle.mt_grammar.specs.Token.{is_tag_byte, tag_bytes}
-use Rattle.mt_grammar.proofs.Levels.{level_between}
+use Rattle.mt_grammar.proofs.Precedence.{precedence_between}
 
 -- tokens that end what is open
 abbrev pub made : Kind → List ℕ → Token
@@ -134,8 +134,8 @@ item_head heading.Declaration e = refl
 item_head heading.NamedExpression e = absurd cc
 item_head heading.Expression e = absurd cc
 
-pub low_enough : (o : Infix) {m : ℕ} → m ≤ level_of o → m ≤ 9
-low_enough o h = let b = (level_between o).1 in omega arith
+pub low_enough : (o : Infix) {m : ℕ} → m ≤ precedence_of o → m ≤ 9
+low_enough o h = let b = (precedence_between o).1 in omega arith
 
 module _ (all : Tokens) where
   pub stands : {fs : List Frame} {out : Nodes} {ts : Tokens} → Open all fs out ts → Stands fs

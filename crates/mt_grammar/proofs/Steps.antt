@@ -8,7 +8,7 @@ use Rattle.mt_grammar.specs.Nodes.{Nodes}
 use Rattle.mt_grammar.specs.Stack.{Frame, Focus}
 use Rattle.mt_grammar.specs.Stack as f
 use Rattle.mt_grammar.specs.Machine.{Next, at, awaits_at, binding, made_at, reduces, start_of, node_of, operand_by, statement_by, body_by, finished_by, first_by, word_by, shift_by, value_by, run}
-use Rattle.mt_grammar.proofs.Levels.{Stops, bound, no_reduce}
+use Rattle.mt_grammar.proofs.Precedence.{Stops, bound, no_reduce}
 
 pub two_ways : {b c : Bool} (one two three : Next) → b ≡ false → c ≡ true → cond b one (cond c two three) ≡ two
 two_ways {b} {c} one two three p q = ap (λ b. cond b one (cond c two three)) p ∙ ap (λ c. cond c two three) q

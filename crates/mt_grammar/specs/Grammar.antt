@@ -1,4 +1,4 @@
--- The grammar, one case for each rule. `Reads l ts rest e`: the tokens ts, up to their suffix rest, are an expression of level l with the tree e.
+-- The grammar, one case for each rule. `Reads l ts rest e`: the tokens ts, up to their suffix rest, are an expression of precedence l with the tree e.
 use Rattle.std.specs.Prelude.{◌≡◌, ◌≢◌, ℕ, suc, Bool, true, false, Option, None, [], ◌∷◌}
 use Rattle.mt_tree.specs.Tables.{is_void_tag}
 use Rattle.mt_tree.specs.declared.operators.Binary.{Binary}
@@ -29,24 +29,24 @@ mark t = record { place = t.place; text = t.text }
 abbrev pub tag_mark : Token → Mark
 tag_mark t = record { place = t.place; text = open_name t }
 
--- The levels of expressions: E 0, Cond 1, Or 2, And 3, Eq 4, Rel 5, Add 6, Mul 7, Un 8, Post 9, Call 10.
-abbrev pub binary_level : Binary → ℕ
-binary_level binary_op.Same = 4
-binary_level binary_op.Different = 4
-binary_level binary_op.Less = 5
-binary_level binary_op.LessEqual = 5
-binary_level binary_op.Greater = 5
-binary_level binary_op.GreaterEqual = 5
-binary_level binary_op.Add = 6
-binary_level binary_op.Sub = 6
-binary_level binary_op.Mul = 7
-binary_level binary_op.Div = 7
-binary_level binary_op.Rem = 7
+-- The precedences of expressions: E 0, Cond 1, Or 2, And 3, Eq 4, Rel 5, Add 6, Mul 7, Un 8, Post 9, Call 10.
+abbrev pub binary_precedence : Binary → ℕ
+binary_precedence binary_op.Same = 4
+binary_precedence binary_op.Different = 4
+binary_precedence binary_op.Less = 5
+binary_precedence binary_op.LessEqual = 5
+binary_precedence binary_op.Greater = 5
+binary_precedence binary_op.GreaterEqual = 5
+binary_precedence binary_op.Add = 6
+binary_precedence binary_op.Sub = 6
+binary_precedence binary_op.Mul = 7
+binary_precedence binary_op.Div = 7
+binary_precedence binary_op.Rem = 7
 
-abbrev pub level_of : Infix → ℕ
-level_of infix_op.Or = 2
-level_of infix_op.And = 3
-level_of (infix_op.Binary b) = binary_level b
+abbrev pub precedence_of : Infix → ℕ
+precedence_of infix_op.Or = 2
+precedence_of infix_op.And = 3
+precedence_of (infix_op.Binary b) = binary_precedence b
 
 abbrev pub sign_of : Unary → Terminal
 sign_of unary_op.Not = k.Exclamation
@@ -128,13 +128,13 @@ mutual
     -- E = Target ("=" | "+=" | ..) E
     r_assign : {ts mid rest : Tokens} {t : Token} {a e : Expr} (o : Option Binary) → Reads 10 ts (t ∷ mid) a → is_target a ≡ true → terminal t ≡ k.Assign o → Reads 0 mid rest e
         → Reads 0 ts rest (assign (place_of ts) o a e)
-    -- a level has what the next one has
+    -- a precedence has what the next one has
     r_up : {l : ℕ} {ts rest : Tokens} {e : Expr} → Reads (suc l) ts rest e → Reads l ts rest e
     -- Cond = Or "?" E ":" E
     r_condition : {ts mid last rest : Tokens} {q c : Token} {a b d : Expr} → Reads 2 ts (q ∷ mid) a → terminal q ≡ k.Question → Reads 0 mid (c ∷ last) b → terminal c ≡ k.Colon → Reads 0 last rest d
         → Reads 1 ts rest (condition (place_of ts) a b d)
     -- Or = And ("||" And)*, And = Eq ("&&" Eq)*, and so on to Mul = Un (("*" | "/" | "%") Un)*
-    r_operation : {l : ℕ} {ts mid rest : Tokens} {t : Token} {a b : Expr} (o : Infix) → l ≡ level_of o → Reads l ts (t ∷ mid) a → terminal t ≡ k.Infix o → Reads (suc l) mid rest b
+    r_operation : {l : ℕ} {ts mid rest : Tokens} {t : Token} {a b : Expr} (o : Infix) → l ≡ precedence_of o → Reads l ts (t ∷ mid) a → terminal t ≡ k.Infix o → Reads (suc l) mid rest b
         → Reads l ts rest (operation (place_of ts) o a b)
     -- Un = ("!" | "-" | "+" | "typeof") Un
     r_unary : {ts rest : Tokens} {t : Token} {a : Expr} (u : Unary) → terminal t ≡ sign_of u → Reads 8 ts rest a → Reads 8 (t ∷ ts) rest (unary t.place u a)

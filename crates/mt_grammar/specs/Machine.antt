@@ -19,7 +19,7 @@ use Rattle.mt_grammar.specs.Nodes.{Node, Nodes}
 use Rattle.mt_grammar.specs.Nodes as n
 use Rattle.mt_grammar.specs.Stack.{Frame, Focus}
 use Rattle.mt_grammar.specs.Stack as f
-use Rattle.mt_grammar.specs.Grammar.{mark, tag_mark, level_of, step_before, step_after, needs_value}
+use Rattle.mt_grammar.specs.Grammar.{mark, tag_mark, precedence_of, step_before, step_after, needs_value}
 
 pub record Configuration : Type 0 where
   pub focus : Focus
@@ -33,9 +33,9 @@ Next = Option Configuration
 abbrev pub at : Focus → List Frame → Nodes → Next
 at x fs out = Some (record { focus = x; frames = fs; nodes = out })
 
--- the level of expressions that are read above this frame; none is at level 11
+-- the precedence of expressions that are read above this frame; none is at precedence 11
 abbrev pub awaits_at : Frame → ℕ
-awaits_at (f.Operation o s) = level_of o + 1
+awaits_at (f.Operation o s) = precedence_of o + 1
 awaits_at (f.Unary u p) = 8
 awaits_at (f.StepBefore d p) = 10
 awaits_at (f.StepAfter d s) = 11
@@ -47,30 +47,30 @@ abbrev pub awaits : List Frame → ℕ
 awaits [] = 0
 awaits (x ∷ fs) = awaits_at x
 
--- an expression of a lower level than this goes on with the token
+-- an expression of a lower precedence than this goes on with the token
 abbrev pub binding : Terminal → ℕ
 binding k.Dot = 10
 binding k.OpenSquare = 10
 binding k.Open = 10
 binding (k.Assign o) = 10
 binding (k.Step d) = 10
-binding (k.Infix o) = level_of o
+binding (k.Infix o) = precedence_of o
 binding k.Question = 2
 binding _ = 0
 
--- the level of the expression that the token makes of the one before it
+-- the precedence of the expression that the token makes of the one before it
 abbrev pub made_at : Terminal → ℕ
 made_at k.Dot = 10
 made_at k.OpenSquare = 10
 made_at k.Open = 10
 made_at (k.Step d) = 9
-made_at (k.Infix o) = level_of o
+made_at (k.Infix o) = precedence_of o
 made_at k.Question = 1
 made_at _ = 0
 
 -- the frame is an operator whose last operand ends before the token
 abbrev pub reduces : Terminal → Bool → Frame → Bool
-reduces y v (f.Operation o s) = nat_le (binding y) (level_of o)
+reduces y v (f.Operation o s) = nat_le (binding y) (precedence_of o)
 reduces y v (f.Unary u p) = nat_le (binding y) 8
 reduces y v (f.StepBefore d p) = v && nat_le (binding y) 9
 reduces y v (f.StepAfter d s) = nat_le (binding y) 9

@@ -10,8 +10,8 @@ ghost use Rattle.mt_parser_machine.specs.Counts.{count_of, counted};
 
 use crate::focus::Focus;
 use crate::frame::Frame;
-use crate::levels::{awaits_at, made_at, operator_node, reduces, start_of};
 use crate::machine::{Machine, Step};
+use crate::precedence::{awaits_at, made_at, operator_node, reduces, start_of};
 use mt_grammar::{StepSign, Terminal};
 use mt_parser_marks::{Node, Token};
 use mt_tree::{Place, StepKind};

@@ -11,8 +11,8 @@ ghost use Rattle.mt_parser_machine.specs.Steps.{Steps};
 
 use crate::focus::Focus;
 use crate::frame::Frame;
-use crate::levels::awaits_at;
 use crate::machine::{Machine, Step};
+use crate::precedence::awaits_at;
 use crate::tag::tag_mark;
 use mt_grammar::{Infix, StepSign, Terminal};
 use mt_parser_marks::{Node, Token};

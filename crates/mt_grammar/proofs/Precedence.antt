@@ -1,4 +1,4 @@
--- The levels at which tokens go on with an expression.
+-- The precedences at which tokens go on with an expression.
 use Rattle.std.proofs.Common.{◌&&◌, nat_le, ◌≡◌, ℕ, ◌≤◌, ◌<◌, Bool, true, false, [], ◌∷◌, refl, arith}
 use Rattle.std.proofs.lemmas.Bool.{lt-leb}
 use Rattle.mt_tree.specs.declared.operators.Binary.TheVariants as binary_op
@@ -9,40 +9,40 @@ use Rattle.mt_grammar.specs.declared.terminal.Terminal.TheVariants as k
 use Rattle.mt_grammar.specs.Token.{Tokens, terminal}
 use Rattle.mt_grammar.specs.Stack.{Frame, Focus}
 use Rattle.mt_grammar.specs.Stack as f
-use Rattle.mt_grammar.specs.Grammar.{level_of}
+use Rattle.mt_grammar.specs.Grammar.{precedence_of}
 use Rattle.mt_grammar.specs.Machine.{awaits_at, binding, made_at, reduces}
 
--- the token after doesn't go on with an expression of this level
+-- the token after doesn't go on with an expression of this precedence
 abbrev pub Stops : ℕ → Tokens → Type 0
 Stops l [] = Unit {0}
 Stops l (t ∷ ts) = binding (terminal t) ≤ l
 
--- ---- levels
+-- ---- precedences
 
-pub level_between : (o : Infix) → (2 ≤ level_of o) × (level_of o ≤ 7)
-level_between infix_op.Or = (omega arith, omega arith)
-level_between infix_op.And = (omega arith, omega arith)
-level_between (infix_op.Binary binary_op.Same) = (omega arith, omega arith)
-level_between (infix_op.Binary binary_op.Different) = (omega arith, omega arith)
-level_between (infix_op.Binary binary_op.Less) = (omega arith, omega arith)
-level_between (infix_op.Binary binary_op.LessEqual) = (omega arith, omega arith)
-level_between (infix_op.Binary binary_op.Greater) = (omega arith, omega arith)
-level_between (infix_op.Binary binary_op.GreaterEqual) = (omega arith, omega arith)
-level_between (infix_op.Binary binary_op.Add) = (omega arith, omega arith)
-level_between (infix_op.Binary binary_op.Sub) = (omega arith, omega arith)
-level_between (infix_op.Binary binary_op.Mul) = (omega arith, omega arith)
-level_between (infix_op.Binary binary_op.Div) = (omega arith, omega arith)
-level_between (infix_op.Binary binary_op.Rem) = (omega arith, omega arith)
+pub precedence_between : (o : Infix) → (2 ≤ precedence_of o) × (precedence_of o ≤ 7)
+precedence_between infix_op.Or = (omega arith, omega arith)
+precedence_between infix_op.And = (omega arith, omega arith)
+precedence_between (infix_op.Binary binary_op.Same) = (omega arith, omega arith)
+precedence_between (infix_op.Binary binary_op.Different) = (omega arith, omega arith)
+precedence_between (infix_op.Binary binary_op.Less) = (omega arith, omega arith)
+precedence_between (infix_op.Binary binary_op.LessEqual) = (omega arith, omega arith)
+precedence_between (infix_op.Binary binary_op.Greater) = (omega arith, omega arith)
+precedence_between (infix_op.Binary binary_op.GreaterEqual) = (omega arith, omega arith)
+precedence_between (infix_op.Binary binary_op.Add) = (omega arith, omega arith)
+precedence_between (infix_op.Binary binary_op.Sub) = (omega arith, omega arith)
+precedence_between (infix_op.Binary binary_op.Mul) = (omega arith, omega arith)
+precedence_between (infix_op.Binary binary_op.Div) = (omega arith, omega arith)
+precedence_between (infix_op.Binary binary_op.Rem) = (omega arith, omega arith)
 
--- what is known of the level at which a token goes on
+-- what is known of the precedence at which a token goes on
 pub record Bound (y : Terminal) : Type 0 where
   pub small : binding y ≤ 10
   pub less : made_at y ≤ binding y
-  -- a token goes on at a level above 7 only behind a Call
+  -- a token goes on at a precedence above 7 only behind a Call
   pub tight : 8 ≤ binding y → 10 ≤ binding y
-  -- no token binds at level 9
+  -- no token binds at precedence 9
   pub not_nine : binding y ≤ 9 → binding y ≤ 8
-  -- nor at level 1
+  -- nor at precedence 1
   pub not_one : binding y ≤ 1 → binding y ≤ 0
   pub made : made_at y ≤ 10
 
@@ -53,7 +53,7 @@ bound k.Open = record { small = omega arith; less = omega arith; tight = λ h. o
 bound (k.Assign o) = record { small = omega arith; less = omega arith; tight = λ h. omega arith; not_nine = λ h. absurd (omega arith); not_one = λ h. absurd (omega arith); made = omega arith }
 bound (k.Step d) = record { small = omega arith; less = omega arith; tight = λ h. omega arith; not_nine = λ h. absurd (omega arith); not_one = λ h. absurd (omega arith); made = omega arith }
 bound (k.Infix o) =
-    let b = level_between o in let low = b.0 in let high = b.1 in
+    let b = precedence_between o in let low = b.0 in let high = b.1 in
     record { small = omega arith; less = omega arith; tight = λ h. absurd (omega arith); not_nine = λ h. omega arith; not_one = λ h. absurd (omega arith); made = omega arith }
 bound k.Question = record { small = omega arith; less = omega arith; tight = λ h. absurd (omega arith); not_nine = λ h. omega arith; not_one = λ h. absurd (omega arith); made = omega arith }
 bound _ = record { small = omega arith; less = omega arith; tight = λ h. absurd (omega arith); not_nine = λ h. omega arith; not_one = λ h. omega arith; made = omega arith }

@@ -1,4 +1,4 @@
-//! The levels of operators, on the stack and as tokens.
+//! The precedence of operators, on the stack and as tokens.
 
 ghost use Rattle.std.specs.Prelude.{◌≡◌, ◌+◌};
 ghost use Rattle.mt_grammar.specs.Machine as spec;
@@ -11,8 +11,8 @@ use mt_grammar::{Infix, Terminal};
 use mt_parser_marks::Node;
 use mt_tree::{Binary, Place};
 
-fn level_of(operator: Infix) -> u8
-    ensures { result ≡ grammar.level_of operator }
+fn precedence_of(operator: Infix) -> u8
+    ensures { result ≡ grammar.precedence_of operator }
 {
     match operator {
         Infix::Or => 2,
@@ -25,12 +25,12 @@ fn level_of(operator: Infix) -> u8
     }
 }
 
-/// The level of the expressions that are read above the frame.
+/// The precedence of the expressions that are read above the frame.
 pub fn awaits_at<'a>(frame: Frame<'a>) -> u8
     ensures { result ≡ spec.awaits_at (frame_of frame.entry) }
 {
     match frame {
-        Frame::Operation(operator, _) => level_of(operator) + 1,
+        Frame::Operation(operator, _) => precedence_of(operator) + 1,
         Frame::Unary(..) => 8,
         Frame::StepBefore(..) => 10,
         Frame::StepAfter(..) | Frame::AttributeValue(..) | Frame::Children(..) => 11,
@@ -38,7 +38,7 @@ pub fn awaits_at<'a>(frame: Frame<'a>) -> u8
     }
 }
 
-/// An expression of a lower level than this goes on with the terminal.
+/// An expression of a lower precedence than this goes on with the terminal.
 pub fn binding(terminal: Terminal) -> u8
     ensures { result ≡ spec.binding terminal }
 {
@@ -48,20 +48,20 @@ pub fn binding(terminal: Terminal) -> u8
         | Terminal::Open
         | Terminal::Assign(_)
         | Terminal::Step(_) => 10,
-        Terminal::Infix(operator) => level_of(operator),
+        Terminal::Infix(operator) => precedence_of(operator),
         Terminal::Question => 2,
         _ => 0,
     }
 }
 
-/// The level of the expression that the terminal makes of the one before it.
+/// The precedence of the expression that the terminal makes of the one before it.
 pub fn made_at(terminal: Terminal) -> u8
     ensures { result ≡ spec.made_at terminal }
 {
     match terminal {
         Terminal::Dot | Terminal::OpenSquare | Terminal::Open => 10,
         Terminal::Step(_) => 9,
-        Terminal::Infix(operator) => level_of(operator),
+        Terminal::Infix(operator) => precedence_of(operator),
         Terminal::Question => 1,
         _ => 0,
     }
@@ -72,7 +72,7 @@ pub fn reduces<'a>(terminal: Terminal, target: bool, frame: Frame<'a>) -> bool
     ensures { result ≡ spec.reduces terminal target (frame_of frame.entry) }
 {
     match frame {
-        Frame::Operation(operator, _) => binding(terminal) <= level_of(operator),
+        Frame::Operation(operator, _) => binding(terminal) <= precedence_of(operator),
         Frame::Unary(..) => binding(terminal) <= 8,
         Frame::StepBefore(..) => target && binding(terminal) <= 9,
         Frame::StepAfter(..) => binding(terminal) <= 9,
