@@ -12,7 +12,7 @@ use Rattle.mt_grammar.specs.Token.{Token, Tokens, place_of, terminal}
 use Rattle.mt_grammar.specs.Tree.{Mark, Title, heading_of, Names, names_count, Expr, Exprs, Props, Attribute, Attributes, attributes_count, Child, Children, children_count, Decl, Decls, decls_count, Optional, Start, Stmt, Stmts, stmts_count, is_target}
 use Rattle.mt_grammar.specs.Nodes.{Node, Nodes, names_nodes, title_nodes, key_node, expr_nodes, exprs_nodes, props_nodes, attribute_nodes, attributes_nodes, child_nodes, children_nodes, decl_nodes, decls_nodes, optional_nodes, start_nodes, stmt_nodes, stmts_nodes}
 use Rattle.mt_grammar.specs.Nodes as n
-use Rattle.mt_grammar.specs.Stack.{Frame, Focus}
+use Rattle.mt_grammar.specs.Stack.{Level, Focus}
 use Rattle.mt_grammar.specs.Stack as f
 use Rattle.mt_grammar.specs.Grammar.{mark, tag_mark, precedence_of, sign_of, step_before, step_after, needs_value, Reads, r_assign, r_up, r_condition, r_operation, r_unary, r_step_before, r_step_after, r_dot, r_index, r_call_none, r_call, r_name, r_number, r_text, r_constant, r_paren, r_array_none, r_array, r_array_comma, r_object_none, r_object, r_object_comma, r_function, r_tilde, r_dollar, r_element, ReadsList, first_expr, next_expr, ReadsProps, first_prop, next_prop, ReadsFunction, function_of, ReadsTilde, tilde_of, ReadsDollar, dollar_of, ReadsElement, e_self, e_void, e_children, ReadsAttribute, a_plain, a_quoted, a_tilde, a_dollar, ReadsAttributes, no_attribute, next_attribute, ReadsChild, c_text, c_element, c_tilde, c_dollar, ReadsChildren, no_child, next_child, ReadsDecl, d_only, d_as, ReadsDecls, first_decl, next_decl, ReadsOptional, o_absent, o_present, ReadsStart, f_optional, f_vars, ReadsBlock, block_of, ReadsBody, b_block, b_single, ReadsStmt, s_var, s_if, s_if_else, s_while, s_for, s_return, s_return_value, s_jump, s_throw, s_try, s_block, s_empty, s_expression, ReadsStmts, no_stmt, next_stmt, ReadsItem, i_function, i_statement, ReadsItems, no_item, next_item, IsProgram}
 use Rattle.mt_grammar.specs.Machine.{Next, at, awaits_at, binding, takes_items, settled, dollar_settled, function_closed, kind_of, run, parsed}
@@ -24,7 +24,7 @@ use Rattle.mt_grammar.proofs.Parts.{stop_end, ended, Ends-stops, stopped, declar
 mutual
   unfolding expr_nodes
 
-  pub reads : {l : ℕ} {ts rest : Tokens} {e : Expr} → Reads l ts rest e → (x : Frame) (fs : List Frame) (out : Nodes) → awaits_at x ≤ l → Stops l rest
+  pub reads : {l : ℕ} {ts rest : Tokens} {e : Expr} → Reads l ts rest e → (x : Level) (fs : List Level) (out : Nodes) → awaits_at x ≤ l → Stops l rest
       → run ts (at f.Operand (x ∷ fs) out) ≡ run rest (at (f.Value (place_of ts) (is_target e)) (x ∷ fs) (expr_nodes e out))
   reads (r_assign {ts} {mid} {rest} {t} {a} {e} b da h q de) x fs out low stops =
       let s = place_of ts in let o = expr_nodes a out in
@@ -120,7 +120,7 @@ mutual
       reads_element d (at f.Operand (x ∷ fs) out) (x ∷ fs) out (λ t more q. operand_at k.TagOpen t more (x ∷ fs) out q) ∙ ap (run rest) (settled_value (place_of ts) x fs (expr_nodes e out) low)
       ∙ ap (λ v. run rest (at (f.Value (place_of ts) v) (x ∷ fs) (expr_nodes e out))) (sym (element_is d))
 
-  pub reads_list : {ts rest : Tokens} {es : Exprs} → ReadsList ts rest es → (g : ℕ → Frame) → Lists g → (fs : List Frame) (out : Nodes) → Stops 0 rest → Listed ts rest es g fs out
+  pub reads_list : {ts rest : Tokens} {es : Exprs} → ReadsList ts rest es → (g : ℕ → Level) → Lists g → (fs : List Level) (out : Nodes) → Stops 0 rest → Listed ts rest es g fs out
   reads_list (first_expr {ts} {rest} {e} d) g lists fs out stops = (place_of ts, is_target e, 0, refl, reads d (g 0) fs out (lists.low 0) stops)
   reads_list (next_expr {ts} {mid} {rest} {c} {es} {e} des q d) g lists fs out stops =
       let i = reads_list des g lists fs out (closes k.Comma c mid refl q) in
@@ -132,7 +132,7 @@ mutual
         i.4 ∙ lists.comma m c mid i.0 i.1 fs (exprs_nodes es out) q (starts d) ∙ reads d (g (m + 1)) fs (exprs_nodes es out) (lists.low (m + 1)) stops,
       )
 
-  pub reads_props : {ts rest : Tokens} {ps : Props} → ReadsProps ts rest ps → (p : Place) (fs : List Frame) (out : Nodes) → Stops 0 rest → Keyed ts rest ps p fs out
+  pub reads_props : {ts rest : Tokens} {ps : Props} → ReadsProps ts rest ps → (p : Place) (fs : List Level) (out : Nodes) → Stops 0 rest → Keyed ts rest ps p fs out
   reads_props (first_prop {ts} {rest} {t} {c} {x} {e} kt q d) p fs out stops =
       let o = out ++ key_node x ∷ [] in (
         place_of ts,
@@ -154,7 +154,7 @@ mutual
             ∙ key_read kt p j (c ∷ mid) fs o ∙ word_at k.Colon c mid (f.ObjectColon p j) fs o2 q ∙ reads d (f.ObjectValue p j) fs o2 (omega arith) stops,
       )
 
-  pub reads_function : {h : Title} {ts rest : Tokens} {ns : Names} {ss : Stmts} → ReadsFunction h ts rest ns ss → (fs : List Frame) (out : Nodes) → HeadTakes (heading_of h) fs
+  pub reads_function : {h : Title} {ts rest : Tokens} {ns : Names} {ss : Stmts} → ReadsFunction h ts rest ns ss → (fs : List Level) (out : Nodes) → HeadTakes (heading_of h) fs
       → run ts (at (head_focus (heading_of h)) fs out)
       ≡ run rest (function_closed (heading_of h) (place_of ts) (names_count ns) (stmts_count ss) fs (stmts_nodes ss (names_nodes ns (title_nodes h out))))
   reads_function (function_of {h} {ts} {list} {mid} {rest} {o} {c} {ns} {ss} dh ps b dss r) fs out takes =
@@ -164,21 +164,21 @@ mutual
       ∙ reads_items dss (λ i. f.FunctionBody z p m i) (in_function z p m) fs o2
       ∙ statement_at k.CloseBrace c rest (f.FunctionBody z p m (stmts_count ss) ∷ fs) (stmts_nodes ss o2) r
 
-  pub reads_tilde : {ts rest : Tokens} {e : Expr} → ReadsTilde ts rest e → (s : Next) (fs : List Frame) (out : Nodes)
+  pub reads_tilde : {ts rest : Tokens} {e : Expr} → ReadsTilde ts rest e → (s : Next) (fs : List Level) (out : Nodes)
       → ((t : Token) (more : Tokens) → terminal t ≡ k.TildeOpen → run (t ∷ more) s ≡ run more (at f.Statement (f.Tilde t.place 0 ∷ fs) out))
       → run ts s ≡ run rest (settled (place_of ts) fs (expr_nodes e out))
   reads_tilde (tilde_of {ts} {rest} {o} {c} {ss} q dss r) s fs out begin =
       begin o ts q ∙ reads_items dss (λ i. f.Tilde o.place i) (in_tilde o.place) fs out
       ∙ statement_at k.CloseBrace c rest (f.Tilde o.place (stmts_count ss) ∷ fs) (stmts_nodes ss out) r
 
-  pub reads_dollar : {ts rest : Tokens} {e : Expr} → ReadsDollar ts rest e → (s : Next) (fs : List Frame) (out : Nodes)
+  pub reads_dollar : {ts rest : Tokens} {e : Expr} → ReadsDollar ts rest e → (s : Next) (fs : List Level) (out : Nodes)
       → ((t : Token) (more : Tokens) → terminal t ≡ k.DollarOpen → run (t ∷ more) s ≡ run more (at f.Operand (f.Dollar t.place ∷ fs) out))
       → run ts s ≡ run rest (dollar_settled (place_of ts) fs (expr_nodes e out))
   reads_dollar (dollar_of {ts} {rest} {o} {c} {e} q d r) s fs out begin =
       begin o ts q ∙ reads d (f.Dollar o.place) fs out (omega arith) (closes k.CloseBrace c rest refl r)
       ∙ close_at k.CloseBrace c rest (place_of ts) (is_target e) (f.Dollar o.place) fs (expr_nodes e out) refl (omega arith) r
 
-  pub reads_element : {ts rest : Tokens} {e : Expr} → ReadsElement ts rest e → (s : Next) (fs : List Frame) (out : Nodes)
+  pub reads_element : {ts rest : Tokens} {e : Expr} → ReadsElement ts rest e → (s : Next) (fs : List Level) (out : Nodes)
       → ((t : Token) (more : Tokens) → terminal t ≡ k.TagOpen → run (t ∷ more) s ≡ run more (at f.Word (f.Attributes (tag_mark t) 0 false ∷ fs) (out ++ n.Word (tag_mark t) ∷ [])))
       → run ts s ≡ run rest (settled (place_of ts) fs (expr_nodes e out))
   reads_element (e_self {ts} {rest} {o} {c} {ats} q d r) s fs out begin =
@@ -197,7 +197,7 @@ mutual
       ∙ reads_children dcs m a fs o2 ∙ word_at k.CloseTag z rest (f.Children m a (children_count cs)) fs (children_nodes cs o2) g
       ∙ ap (run rest) (if_true _ None (bytes_same _ _ e))
 
-  pub reads_attribute : {ts rest : Tokens} {a : Attribute} → ReadsAttribute ts rest a → (m : Mark) (i : ℕ) (v : Bool) (fs : List Frame) (out : Nodes)
+  pub reads_attribute : {ts rest : Tokens} {a : Attribute} → ReadsAttribute ts rest a → (m : Mark) (i : ℕ) (v : Bool) (fs : List Level) (out : Nodes)
       → (w : Bool) × (run ts (at f.Word (f.Attributes m i v ∷ fs) out) ≡ run rest (at f.Word (f.Attributes m (i + 1) w ∷ fs) (attribute_nodes a out)))
   reads_attribute (a_plain {rest} {t} q) m i v fs out = (true, word_at k.AttributeName t rest (f.Attributes m i v) fs out q)
   reads_attribute (a_quoted {rest} {t} {z} {v = x} q r u) m i v fs out =
@@ -219,7 +219,7 @@ mutual
             ∙ reads_dollar d (at f.Word (x ∷ fs) o) (x ∷ fs) o (λ t more q. word_at k.DollarOpen t more x fs o q),
       )
 
-  pub reads_attributes : {ts rest : Tokens} {ats : Attributes} → ReadsAttributes ts rest ats → (m : Mark) (fs : List Frame) (out : Nodes)
+  pub reads_attributes : {ts rest : Tokens} {ats : Attributes} → ReadsAttributes ts rest ats → (m : Mark) (fs : List Level) (out : Nodes)
       → (w : Bool) × (run ts (at f.Word (f.Attributes m 0 false ∷ fs) out) ≡ run rest (at f.Word (f.Attributes m (attributes_count ats) w ∷ fs) (attributes_nodes ats out)))
   reads_attributes no_attribute m fs out = (false, refl)
   reads_attributes (next_attribute {ts} {mid} {rest} {ats} {a} das d) m fs out =
@@ -227,7 +227,7 @@ mutual
       let j = reads_attribute d m (attributes_count ats) i.0 fs (attributes_nodes ats out) in
       (j.0, i.1 ∙ j.1)
 
-  pub reads_child : {ts rest : Tokens} {c : Child} → ReadsChild ts rest c → (m : Mark) (a i : ℕ) (fs : List Frame) (out : Nodes)
+  pub reads_child : {ts rest : Tokens} {c : Child} → ReadsChild ts rest c → (m : Mark) (a i : ℕ) (fs : List Level) (out : Nodes)
       → run ts (at f.Word (f.Children m a i ∷ fs) out) ≡ run rest (at f.Word (f.Children m a (i + 1) ∷ fs) (child_nodes c out))
   reads_child (c_text {rest} {t} q) m a i fs out = word_at k.ChildText t rest (f.Children m a i) fs out q
   reads_child (c_element d) m a i fs out =
@@ -237,12 +237,12 @@ mutual
   reads_child (c_dollar d) m a i fs out =
       let x = f.Children m a i in reads_dollar d (at f.Word (x ∷ fs) out) (x ∷ fs) out (λ t more q. word_at k.DollarOpen t more x fs out q)
 
-  pub reads_children : {ts rest : Tokens} {cs : Children} → ReadsChildren ts rest cs → (m : Mark) (a : ℕ) (fs : List Frame) (out : Nodes)
+  pub reads_children : {ts rest : Tokens} {cs : Children} → ReadsChildren ts rest cs → (m : Mark) (a : ℕ) (fs : List Level) (out : Nodes)
       → run ts (at f.Word (f.Children m a 0 ∷ fs) out) ≡ run rest (at f.Word (f.Children m a (children_count cs) ∷ fs) (children_nodes cs out))
   reads_children no_child m a fs out = refl
   reads_children (next_child {cs} dcs d) m a fs out = reads_children dcs m a fs out ∙ reads_child d m a (children_count cs) fs (children_nodes cs out)
 
-  pub reads_decl : {kd : VarKind} {ts rest : Tokens} {x : Decl} → ReadsDecl kd ts rest x → (d : Declaration) → kind_of d ≡ kd → (p : Place) (c : ℕ) (fs : List Frame) (out : Nodes) → Stops 0 rest
+  pub reads_decl : {kd : VarKind} {ts rest : Tokens} {x : Decl} → ReadsDecl kd ts rest x → (d : Declaration) → kind_of d ≡ kd → (p : Place) (c : ℕ) (fs : List Level) (out : Nodes) → Stops 0 rest
       → Declared ts rest d p c (c + 1) fs out (decl_nodes x out)
   reads_decl (d_only {rest} {t} q nv) d e p c fs out stops =
       let o = out ++ n.DeclName (mark t) ∷ [] in (
@@ -257,7 +257,7 @@ mutual
         λ y t' more h g. stopped y t' more (place_of ts) (is_target a) x fs (expr_nodes a o) refl h g,
       )
 
-  pub reads_decls : {kd : VarKind} {ts rest : Tokens} {ds : Decls} → ReadsDecls kd ts rest ds → (d : Declaration) → kind_of d ≡ kd → (p : Place) (fs : List Frame) (out : Nodes) → Stops 0 rest
+  pub reads_decls : {kd : VarKind} {ts rest : Tokens} {ds : Decls} → ReadsDecls kd ts rest ds → (d : Declaration) → kind_of d ≡ kd → (p : Place) (fs : List Level) (out : Nodes) → Stops 0 rest
       → Declared ts rest d p 0 (decls_count ds) fs out (decls_nodes ds out)
   reads_decls (first_decl dx) d e p fs out stops = reads_decl dx d e p 0 fs out stops
   reads_decls (next_decl {mid} {c} {ds} dds q dx) d e p fs out stops =
@@ -265,7 +265,7 @@ mutual
       let j = reads_decl dx d e p (decls_count ds) fs (decls_nodes ds out) stops in
       (j.0, i.1 ∙ i.2 k.Comma c mid refl q ∙ j.1, j.2)
 
-  pub reads_optional : {y : Terminal} {ts rest : Tokens} {o : Optional} → ReadsOptional y ts rest o → (x : Frame) (fs : List Frame) (next : Nodes → Next) → LeavesOut y x fs next → (out : Nodes)
+  pub reads_optional : {y : Terminal} {ts rest : Tokens} {o : Optional} → ReadsOptional y ts rest o → (x : Level) (fs : List Level) (next : Nodes → Next) → LeavesOut y x fs next → (out : Nodes)
       → run ts (at f.First (x ∷ fs) out) ≡ run rest (next (optional_nodes o out))
   reads_optional (o_absent {y} {c} {rest} q) x fs next leaves out = first_at y c rest (x ∷ fs) out q ∙ ap (run rest) (leaves.none c out)
   reads_optional (o_present {y} {ts} {rest} {c} {e} d q) x fs next leaves out =
@@ -273,7 +273,7 @@ mutual
       first_operand ts (x ∷ fs) out (starts d) ∙ reads d x fs out leaves.low (closes y c rest leaves.ends q)
       ∙ close_at y c rest (place_of ts) (is_target e) x fs o (leaves.calm (is_target e)) leaves.low q ∙ ap (run rest) (leaves.some c (place_of ts) (is_target e) o)
 
-  pub reads_start : {ts rest : Tokens} {a : Start} → ReadsStart ts rest a → (p : Place) (fs : List Frame) (out : Nodes)
+  pub reads_start : {ts rest : Tokens} {a : Start} → ReadsStart ts rest a → (p : Place) (fs : List Level) (out : Nodes)
       → run ts (at f.First (f.ForStart p ∷ fs) out) ≡ run rest (at f.First (f.ForTest p ∷ fs) (start_nodes a out))
   reads_start (f_optional d) p fs out = reads_optional d (f.ForStart p) fs (λ out. at f.First (f.ForTest p ∷ fs) (out ++ n.StartOptional ∷ [])) (at_start p fs) out
   reads_start (f_vars {ts} {rest} {v} {c} {ds} q dds r) p fs out =
@@ -281,20 +281,20 @@ mutual
       first_at (k.Declare var_kind.Var) v ts (f.ForStart p ∷ fs) out q ∙ i.1 ∙ i.2 k.Semicolon c rest refl r
 
   -- a block, wherever its brace opens one
-  pub reads_block : {ts rest : Tokens} {s : Stmt} → ReadsBlock ts rest s → (z : Next) (fs : List Frame) (out : Nodes)
+  pub reads_block : {ts rest : Tokens} {s : Stmt} → ReadsBlock ts rest s → (z : Next) (fs : List Level) (out : Nodes)
       → ((t : Token) (more : Tokens) → terminal t ≡ k.OpenBrace → run (t ∷ more) z ≡ run more (at f.Statement (f.Block t.place 0 ∷ fs) out))
       → run ts z ≡ run rest (at f.Finished fs (stmt_nodes s out))
   reads_block (block_of {ts} {rest} {o} {c} {ss} q dss r) z fs out begin =
       begin o ts q ∙ reads_stmts dss (λ i. f.Block o.place i) (in_block o.place) fs out
       ∙ statement_at k.CloseBrace c rest (f.Block o.place (stmts_count ss) ∷ fs) (stmts_nodes ss out) r
 
-  pub reads_body : {ts rest : Tokens} {s : Stmt} → ReadsBody ts rest s → (fs : List Frame) (out : Nodes)
+  pub reads_body : {ts rest : Tokens} {s : Stmt} → ReadsBody ts rest s → (fs : List Level) (out : Nodes)
       → run ts (at f.Body fs out) ≡ run rest (at f.Finished fs (stmt_nodes s out))
   reads_body (b_block d) fs out = reads_block d (at f.Body fs out) fs out (λ t more q. body_at k.OpenBrace t more fs out q)
   reads_body (b_single {ts} {rest} {s} h d) fs out =
       body_single ts fs out h (stmt_some d) ∙ reads_stmt d (f.Single (place_of ts) ∷ fs) out ∙ single rest (place_of ts) fs (stmt_nodes s out)
 
-  pub reads_stmt : {ts rest : Tokens} {s : Stmt} → ReadsStmt ts rest s → (fs : List Frame) (out : Nodes)
+  pub reads_stmt : {ts rest : Tokens} {s : Stmt} → ReadsStmt ts rest s → (fs : List Level) (out : Nodes)
       → run ts (at f.Statement fs out) ≡ run rest (at f.Finished fs (stmt_nodes s out))
   reads_stmt (s_var {ts} {mid} {rest} {v} {ds} d q dds e) fs out =
       let p = v.place in let c = decls_count ds in let o = decls_nodes ds out in
@@ -353,14 +353,14 @@ mutual
       statement_operand ts fs out (starts de) h ∙ reads de x fs out (omega arith) (Ends-stops en)
       ∙ ended (at (f.Value s v) (x ∷ fs) o) fs (o ++ n.Expression s ∷ []) en (λ y t' more h g. stopped y t' more s v x fs o refl (stop_end y h) g)
 
-  pub reads_stmts : {ts rest : Tokens} {ss : Stmts} → ReadsStmts ts rest ss → (g : ℕ → Frame) → Holds g → (fs : List Frame) (out : Nodes)
+  pub reads_stmts : {ts rest : Tokens} {ss : Stmts} → ReadsStmts ts rest ss → (g : ℕ → Level) → Holds g → (fs : List Level) (out : Nodes)
       → run ts (at f.Statement (g 0 ∷ fs) out) ≡ run rest (at f.Statement (g (stmts_count ss) ∷ fs) (stmts_nodes ss out))
   reads_stmts no_stmt g holds fs out = refl
   reads_stmts (next_stmt {ts} {mid} {rest} {ss} {s} dss d) g holds fs out =
       reads_stmts dss g holds fs out ∙ reads_stmt d (g (stmts_count ss) ∷ fs) (stmts_nodes ss out)
       ∙ holds.next (stmts_count ss) rest fs (stmt_nodes s (stmts_nodes ss out))
 
-  pub reads_item : {ts rest : Tokens} {s : Stmt} → ReadsItem ts rest s → (fs : List Frame) (out : Nodes) → takes_items fs ≡ true
+  pub reads_item : {ts rest : Tokens} {s : Stmt} → ReadsItem ts rest s → (fs : List Level) (out : Nodes) → takes_items fs ≡ true
       → run ts (at f.Statement fs out) ≡ run rest (at f.Finished fs (stmt_nodes s out))
   reads_item (i_function {ts} {rest} {h} {ns} {ss} d g) fs out takes =
       let z = heading_of h in
@@ -368,7 +368,7 @@ mutual
       ∙ ap (run rest) (item_closed z (place_of ts) (names_count ns) (stmts_count ss) fs (stmts_nodes ss (names_nodes ns (title_nodes h out))) g)
   reads_item (i_statement d) fs out takes = reads_stmt d fs out
 
-  pub reads_items : {ts rest : Tokens} {ss : Stmts} → ReadsItems ts rest ss → (g : ℕ → Frame) → HoldsItems g → (fs : List Frame) (out : Nodes)
+  pub reads_items : {ts rest : Tokens} {ss : Stmts} → ReadsItems ts rest ss → (g : ℕ → Level) → HoldsItems g → (fs : List Level) (out : Nodes)
       → run ts (at f.Statement (g 0 ∷ fs) out) ≡ run rest (at f.Statement (g (stmts_count ss) ∷ fs) (stmts_nodes ss out))
   reads_items no_item g items fs out = refl
   reads_items (next_item {ts} {mid} {rest} {ss} {s} dss d) g items fs out =

@@ -9,7 +9,7 @@ use Rattle.mt_grammar.specs.declared.terminal.Terminal.TheVariants as k
 use Rattle.mt_grammar.specs.Token.{Tokens, nowhere, terminal}
 use Rattle.mt_grammar.specs.Nodes.{Node, Nodes, names_nodes, title_nodes, key_node, expr_nodes, exprs_nodes, props_nodes, attribute_nodes, attributes_nodes, child_nodes, children_nodes, decl_nodes, decls_nodes, optional_nodes, start_nodes, stmt_nodes, stmts_nodes}
 use Rattle.mt_grammar.specs.Nodes as n
-use Rattle.mt_grammar.specs.Stack.{Frame, Focus}
+use Rattle.mt_grammar.specs.Stack.{Level, Focus}
 use Rattle.mt_grammar.specs.Stack as f
 use Rattle.mt_grammar.specs.Grammar.{mark, NotNext}
 use Rattle.mt_grammar.specs.Machine.{Next, at, awaits, settled, dollar_settled, run}
@@ -22,7 +22,7 @@ use Rattle.mt_grammar.proofs.Stands.{a_name, a_number, a_catch, opening, closing
 
 -- what ends all that is open, after an expression and after a statement
 abbrev mutual
-  pub after_value : List Frame → Tokens
+  pub after_value : List Level → Tokens
   after_value [] = []
   after_value (f.Operation o s ∷ fs) = after_value fs
   after_value (f.Unary u p ∷ fs) = after_value fs
@@ -51,7 +51,7 @@ abbrev mutual
   after_value (f.Expression p ∷ fs) = a_semicolon ∷ after_statement fs
   after_value (_ ∷ fs) = []
 
-  pub after_statement : List Frame → Tokens
+  pub after_statement : List Level → Tokens
   after_statement [] = []
   after_statement (f.Block p c ∷ fs) = closing_brace ∷ after_statement fs
   after_statement (f.FunctionBody heading.Service p m c ∷ fs) = closing_brace ∷ after_statement fs
@@ -68,7 +68,7 @@ abbrev mutual
   after_statement (f.CatchBlock p ∷ fs) = after_statement fs
   after_statement (_ ∷ fs) = []
 
-pub value_stops : {fs : List Frame} → Stands fs → awaits fs ≤ 9 → Stops 0 (after_value fs)
+pub value_stops : {fs : List Level} → Stands fs → awaits fs ≤ 9 → Stops 0 (after_value fs)
 unfolding terminal
 value_stops (above {y = f.Operation o s} st w) h = value_stops st w.1
 value_stops (above {y = f.Unary u p} st w) h = value_stops st w.1
@@ -97,7 +97,7 @@ value_stops (above {y = f.Throw p} st w) h = omega arith
 value_stops (above {y = f.Expression p} st w) h = omega arith
 value_stops st h = tt
 
-pub no_else_next : (fs : List Frame) → NotNext k.Else (after_statement fs)
+pub no_else_next : (fs : List Level) → NotNext k.Else (after_statement fs)
 unfolding terminal
 no_else_next [] = tt
 no_else_next (f.Block p c ∷ fs) = λ e. cc
@@ -121,25 +121,25 @@ ReadsAll ts s = (nodes : Nodes) × (run ts s ≡ Some nodes)
 pub along : (ts us : Tokens) (r s : Next) → run ts r ≡ run us s → ReadsAll us s → ReadsAll ts r
 along ts us r s e h = (h.0, e ∙ h.1)
 
-abbrev pub wants_top : List Frame → Want → Type 0
+abbrev pub wants_top : List Level → Want → Type 0
 wants_top [] w = Unit {0}
 wants_top (x ∷ fs) w = wants x ≡ w
 
-abbrev pub block_top : List Frame → Type 0
+abbrev pub block_top : List Level → Type 0
 block_top [] = Unit {0}
 block_top (x ∷ fs) = takes_block (wants x) ≡ true
 
-abbrev pub code_top : List Frame → Type 0
+abbrev pub code_top : List Level → Type 0
 code_top [] = Unit {0}
 code_top (x ∷ fs) = holds_code x ≡ true
 
-abbrev pub ValueEnds : List Frame → Type 0
+abbrev pub ValueEnds : List Level → Type 0
 ValueEnds fs = wants_top fs a_value → (s : Place) (v : Bool) (out : Nodes) → ReadsAll (after_value fs) (at (f.Value s v) fs out)
 
 mutual
   unfolding terminal
 
-  pub value_ends : {fs : List Frame} → Stands fs → wants_top fs a_value → (s : Place) (v : Bool) (out : Nodes) → ReadsAll (after_value fs) (at (f.Value s v) fs out)
+  pub value_ends : {fs : List Level} → Stands fs → wants_top fs a_value → (s : Place) (v : Bool) (out : Nodes) → ReadsAll (after_value fs) (at (f.Value s v) fs out)
   value_ends (above {y = f.Operation o p} {x} {fs} st w) h s v out =
       let rest = after_value (x ∷ fs) in
       along rest rest _ _ (reduce rest 0 s v (f.Operation o p) (x ∷ fs) out (λ y b. le-leb _ _ (omega arith)) (value_stops st w.1)) (value_ends st w.0 p false (out ++ n.Operation p o ∷ []))
@@ -197,7 +197,7 @@ mutual
   value_ends (above {y = f.Expression p} st w) h s v out = statement_ends st (stmt_block _ w) _
   value_ends st h s v out = absurd cc
 
-  pub statement_ends : {fs : List Frame} → Stands fs → block_top fs → (out : Nodes) → ReadsAll (after_statement fs) (at f.Finished fs out)
+  pub statement_ends : {fs : List Level} → Stands fs → block_top fs → (out : Nodes) → ReadsAll (after_statement fs) (at f.Finished fs out)
   statement_ends bottom h out = (out, refl)
   statement_ends (above {y = f.Program c} st w) h out = elim w [ ]
   statement_ends (above {y = f.Block p c} st w) h out = statement_ends st w _
@@ -223,7 +223,7 @@ mutual
       let rest = after_statement (x ∷ fs) in along rest rest _ _ (try_done rest p (x ∷ fs) out) (statement_ends st (stmt_block _ w) (out ++ n.Try p ∷ []))
   statement_ends st h out = absurd cc
 
-  pub settled_ends : {fs : List Frame} → Stands fs → ValueEnds fs → code_top fs → (p : Place) (out : Nodes) → ReadsAll (after_value fs) (settled p fs out)
+  pub settled_ends : {fs : List Level} → Stands fs → ValueEnds fs → code_top fs → (p : Place) (out : Nodes) → ReadsAll (after_value fs) (settled p fs out)
   settled_ends (above {y = f.AttributeValue m a} {x} st w) value h p out = settled_ends st (λ g s v o. value_ends st g s v o) (element_code x w) m.place _
   settled_ends (above {y = f.Children m a c} {x} {fs} st w) value h p out =
       let rest = after_value (x ∷ fs) in let o = out ++ n.ChildDirect ∷ [] ++ n.Element m.place a (c + 1) ∷ [] in
@@ -231,7 +231,7 @@ mutual
       (settled_ends st (λ g s v o. value_ends st g s v o) (element_code x w.0) m.place o)
   settled_ends st value h p out = value (value_is _ h) p false out
 
-  pub dollar_ends : {fs : List Frame} → Stands fs → ValueEnds fs → code_top fs → (p : Place) (out : Nodes) → ReadsAll (after_value fs) (dollar_settled p fs out)
+  pub dollar_ends : {fs : List Level} → Stands fs → ValueEnds fs → code_top fs → (p : Place) (out : Nodes) → ReadsAll (after_value fs) (dollar_settled p fs out)
   dollar_ends (above {y = f.AttributeValue m a} {x} st w) value h p out = settled_ends st (λ g s v o. value_ends st g s v o) (element_code x w) m.place _
   dollar_ends (above {y = f.Children m a c} {x} {fs} st w) value h p out =
       let rest = after_value (x ∷ fs) in let o = out ++ n.ChildDollar ∷ [] ++ n.Element m.place a (c + 1) ∷ [] in
@@ -242,17 +242,17 @@ mutual
 abbrev pub CanEnd : Next → Type 0
 CanEnd s = (more : Tokens) × ReadsAll more s
 
-pub statement_begins : {x : Frame} {fs : List Frame} → Stands (x ∷ fs) → takes_stmt (wants x) ≡ true → (out : Nodes) → CanEnd (at f.Statement (x ∷ fs) out)
+pub statement_begins : {x : Level} {fs : List Level} → Stands (x ∷ fs) → takes_stmt (wants x) ≡ true → (out : Nodes) → CanEnd (at f.Statement (x ∷ fs) out)
 unfolding terminal
 statement_begins {x} {fs} st w out = (a_semicolon ∷ after_statement (x ∷ fs), statement_ends st (stmt_block _ w) (out ++ n.Empty nowhere ∷ []))
 
 -- the body of a function
-pub body_ends : {x : Frame} {fs : List Frame} → Stands (x ∷ fs) → (h : Heading) → wants x ≡ head_wants h → (p : Place) (m : ℕ) (out : Nodes) → ReadsAll (a_semicolon ∷ after_statement (f.FunctionBody h p m 0 ∷ x ∷ fs)) (at f.Statement (f.FunctionBody h p m 0 ∷ x ∷ fs) out)
+pub body_ends : {x : Level} {fs : List Level} → Stands (x ∷ fs) → (h : Heading) → wants x ≡ head_wants h → (p : Place) (m : ℕ) (out : Nodes) → ReadsAll (a_semicolon ∷ after_statement (f.FunctionBody h p m 0 ∷ x ∷ fs)) (at f.Statement (f.FunctionBody h p m 0 ∷ x ∷ fs) out)
 unfolding terminal
 body_ends {x} {fs} st h w p m out = statement_ends (above {y = f.FunctionBody h p m 0} st w) refl (out ++ n.Empty nowhere ∷ [])
 
 -- Wherever the machine stands, some tokens end the program.
-pub word_ends : {fs : List Frame} → Stands fs → wants_top fs a_word → (out : Nodes) → CanEnd (at f.Word fs out)
+pub word_ends : {fs : List Level} → Stands fs → wants_top fs a_word → (out : Nodes) → CanEnd (at f.Word fs out)
 unfolding terminal
 word_ends (above {y = f.IfOpen p} {x} {fs} st w) h out =
     let y = f.IfTest p in (opening ∷ a_number ∷ after_value (y ∷ x ∷ fs), value_ends (above {y = y} st w) refl nowhere false (out ++ n.Number (mark a_number) ∷ []))
@@ -324,7 +324,7 @@ word_ends (above {y = f.Children m a c} {x} {fs} st w) h out =
     )
 word_ends st h out = absurd cc
 
-pub stepped_ends : {fs : List Frame} → Stands fs → wants_top fs an_end → (s : Place) (out : Nodes) → ReadsAll (after_value fs) (at (f.Value s false) fs out)
+pub stepped_ends : {fs : List Level} → Stands fs → wants_top fs an_end → (s : Place) (out : Nodes) → ReadsAll (after_value fs) (at (f.Value s false) fs out)
 stepped_ends (above {y = f.StepAfter d p} {x} {fs} st w) h s out =
     let rest = after_value (x ∷ fs) in
     along rest rest _ _ (reduce rest 0 s false (f.StepAfter d p) (x ∷ fs) out (λ y b. le-leb _ _ (omega arith)) (value_stops st w.1)) (value_ends st w.0 p false (out ++ n.Step p d ∷ []))

@@ -7,7 +7,7 @@ use Rattle.mt_grammar.specs.declared.terminal.Infix.TheVariants as infix_op
 use Rattle.mt_grammar.specs.declared.terminal.Terminal.{Terminal}
 use Rattle.mt_grammar.specs.declared.terminal.Terminal.TheVariants as k
 use Rattle.mt_grammar.specs.Token.{Tokens, terminal}
-use Rattle.mt_grammar.specs.Stack.{Frame, Focus}
+use Rattle.mt_grammar.specs.Stack.{Level, Focus}
 use Rattle.mt_grammar.specs.Stack as f
 use Rattle.mt_grammar.specs.Grammar.{precedence_of}
 use Rattle.mt_grammar.specs.Machine.{awaits_at, binding, made_at, reduces}
@@ -58,7 +58,7 @@ bound (k.Infix o) =
 bound k.Question = record { small = omega arith; less = omega arith; tight = λ h. absurd (omega arith); not_nine = λ h. omega arith; not_one = λ h. absurd (omega arith); made = omega arith }
 bound _ = record { small = omega arith; less = omega arith; tight = λ h. absurd (omega arith); not_nine = λ h. omega arith; not_one = λ h. omega arith; made = omega arith }
 
-pub no_reduce : (y : Terminal) (v : Bool) (x : Frame) → awaits_at x ≤ made_at y → 0 < binding y → reduces y v x ≡ false
+pub no_reduce : (y : Terminal) (v : Bool) (x : Level) → awaits_at x ≤ made_at y → 0 < binding y → reduces y v x ≡ false
 no_reduce y v (f.Operation o s) h p = let b = (bound y).less in lt-leb _ _ (omega arith)
 no_reduce y v (f.Unary u s) h p = let b = (bound y).less in let c = (bound y).tight (omega arith) in lt-leb _ _ (omega arith)
 no_reduce y v (f.StepBefore d s) h p = let b = (bound y).less in never v (nat_le (binding y) 9) (lt-leb _ _ (omega arith))

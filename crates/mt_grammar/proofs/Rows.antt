@@ -1,9 +1,9 @@
--- What holds of rows, of frames and of precedences, apart from where the machine stands.
+-- What holds of rows, of levels and of precedences, apart from where the machine stands.
 use Rattle.std.proofs.Common.{◌≡◌, ℕ, zero, suc, ◌+◌, ◌-◌, ◌≤◌, true, ◌∷◌, refl, sym, ap, subst, arith}
 use Rattle.mt_tree.specs.declared.operators.VarKind.{VarKind}
 use Rattle.mt_grammar.specs.declared.terminal.Terminal.TheVariants as k
 use Rattle.mt_grammar.specs.Token.{Token, Tokens, terminal}
-use Rattle.mt_grammar.specs.Stack.{Frame, Focus}
+use Rattle.mt_grammar.specs.Stack.{Level, Focus}
 use Rattle.mt_grammar.specs.Stack as f
 use Rattle.mt_grammar.specs.Grammar.{Head, h_service, h_declaration, h_named, IsKey, Reads, r_up, ReadsList, first_expr, next_expr, ReadsProps, first_prop, next_prop, ReadsDecl, ReadsDecls, first_decl, next_decl}
 use Rattle.mt_grammar.specs.Tree.{Title, Key, Expr, Exprs, exprs_and, Props, no_props, props_and, Decl, Decls, decls_and}
@@ -44,8 +44,8 @@ pub value_is : (z : Want) → is_value z ≡ true → z ≡ a_value
 value_is a_value h = refl
 value_is _ h = absurd cc
 
--- an expression is read only above a frame that wants one
-pub value_low : (x : Frame) → wants x ≡ a_value → awaits_at x ≤ 10
+-- an expression is read only above a level that wants one
+pub value_low : (x : Level) → wants x ≡ a_value → awaits_at x ≤ 10
 value_low (f.Operation o s) h = let b = (precedence_between o).1 in omega arith
 value_low (f.Unary u p) h = omega arith
 value_low (f.StepBefore d p) h = omega arith
@@ -54,11 +54,11 @@ value_low (f.AttributeValue m a) h = absurd cc
 value_low (f.Children m a c) h = absurd cc
 value_low x h = omega arith
 
-pub code_wanted : (x : Frame) → wants x ≡ a_value → holds_code x ≡ true
+pub code_wanted : (x : Level) → wants x ≡ a_value → holds_code x ≡ true
 code_wanted (f.AttributeValue m a) h = refl
 code_wanted (f.Children m a c) h = refl
 code_wanted _ h = ap is_value h
 
-pub element_wanted : (x : Frame) → wants x ≡ a_value → holds_element x ≡ true
+pub element_wanted : (x : Level) → wants x ≡ a_value → holds_element x ≡ true
 element_wanted (f.Children m a c) h = refl
 element_wanted _ h = ap is_value h

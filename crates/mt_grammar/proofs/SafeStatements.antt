@@ -14,7 +14,7 @@ use Rattle.mt_grammar.specs.declared.terminal.Terminal.{Terminal}
 use Rattle.mt_grammar.specs.declared.terminal.Terminal.TheVariants as k
 use Rattle.mt_grammar.specs.Token.{Token, Tokens, place_of, terminal}
 use Rattle.mt_grammar.specs.Nodes.{Nodes, names_nodes, title_nodes, expr_nodes, decls_nodes, stmt_nodes, stmts_nodes}
-use Rattle.mt_grammar.specs.Stack.{Frame, Focus}
+use Rattle.mt_grammar.specs.Stack.{Level, Focus}
 use Rattle.mt_grammar.specs.Stack as f
 use Rattle.mt_grammar.specs.Grammar.{mark, sign_of, begins_expression, begins_single, is_expression, Ends, semicolon, before_brace, r_name, r_number, r_text, r_constant, r_function, r_tilde, r_dollar, r_element, ReadsFunction, function_of, ReadsTilde, tilde_of, ReadsDollar, ReadsElement, a_tilde, a_dollar, no_attribute, next_attribute, c_element, c_tilde, c_dollar, next_child, ReadsDecls, f_vars, ReadsBlock, block_of, ReadsBody, b_block, b_single, ReadsStmt, s_var, s_if, s_if_else, s_while, s_for, s_try, s_block, s_empty, no_stmt, next_stmt, ReadsItem, i_function, i_statement, no_item, next_item}
 use Rattle.mt_grammar.specs.Tree.{Title, a_service, a_declaration, a_named_expression, an_expression, heading_of, Names, names_count, Expr, name, number, text, constant, function, dollar, Decls, decls_count, Stmt, var, declare, if_only, if_else, while, for, try, block, empty, Stmts, no_stmts, stmts_and, stmts_count}
@@ -34,11 +34,11 @@ module _ (all : Tokens) where
 
   -- ---- an operand
 
-  pub prefix_safe : {x : Frame} {fs : List Frame} {out : Nodes} {ts : Tokens} (t : Token) (u : Unary) → terminal t ≡ sign_of u → Open all (x ∷ fs) out (t ∷ ts) → wants x ≡ a_value
+  pub prefix_safe : {x : Level} {fs : List Level} {out : Nodes} {ts : Tokens} (t : Token) (u : Unary) → terminal t ≡ sign_of u → Open all (x ∷ fs) out (t ∷ ts) → wants x ≡ a_value
       → Safe all (prefix_by t (f.Unary u t.place) (x ∷ fs) out) ts
   prefix_safe t u q d w = or_refused _ _ _ (λ h. g_operand (o_unary u d w (leb-true _ _ h) q) refl)
 
-  pub operand_safe : {x : Frame} {fs : List Frame} {out : Nodes} {ts : Tokens} (t : Token) (y : Terminal) → terminal t ≡ y → Open all (x ∷ fs) out (t ∷ ts) → wants x ≡ a_value
+  pub operand_safe : {x : Level} {fs : List Level} {out : Nodes} {ts : Tokens} (t : Token) (y : Terminal) → terminal t ≡ y → Open all (x ∷ fs) out (t ∷ ts) → wants x ≡ a_value
       → Safe all (operand_by t y (x ∷ fs) out) ts
   unfolding expr_nodes
   operand_safe t k.Name q d w = g_value {e = name (mark t)} d w (r_name q) refl
@@ -78,43 +78,43 @@ module _ (all : Tokens) where
   fits_block a_block h d = d
   fits_block _ h d = absurd cc
 
-  pub as_item : (x : Frame) {ts rest : Tokens} {s : Stmt} → wants x ≡ an_item → ReadsItem ts rest s → Fits all (wants x) ts rest s
+  pub as_item : (x : Level) {ts rest : Tokens} {s : Stmt} → wants x ≡ an_item → ReadsItem ts rest s → Fits all (wants x) ts rest s
   as_item x {ts} {rest} {s} w d = subst (λ (z : Want). Fits all z ts rest s) (sym w) d
 
-  pub as_body : (x : Frame) {ts rest : Tokens} {s : Stmt} → wants x ≡ a_body → ReadsBody ts rest s → Fits all (wants x) ts rest s
+  pub as_body : (x : Level) {ts rest : Tokens} {s : Stmt} → wants x ≡ a_body → ReadsBody ts rest s → Fits all (wants x) ts rest s
   as_body x {ts} {rest} {s} w d = subst (λ (z : Want). Fits all z ts rest s) (sym w) d
 
   -- a statement that is finished
-  pub done : {x : Frame} {fs : List Frame} {out : Nodes} {mid ts : Tokens} (s : Stmt) → Open all (x ∷ fs) out mid → takes_stmt (wants x) ≡ true → ReadsStmt mid ts s → Good all f.Finished (x ∷ fs) (stmt_nodes s out) ts
+  pub done : {x : Level} {fs : List Level} {out : Nodes} {mid ts : Tokens} (s : Stmt) → Open all (x ∷ fs) out mid → takes_stmt (wants x) ≡ true → ReadsStmt mid ts s → Good all f.Finished (x ∷ fs) (stmt_nodes s out) ts
   done {x} s d w h = g_finished s d (stmt_blocks (wants x) w) (fits_stmt (wants x) w h)
 
-  abbrev pub HoldsTop : List Frame → Type 0
+  abbrev pub HoldsTop : List Level → Type 0
   HoldsTop [] = Unit {0}
   HoldsTop (x ∷ fs) = holds_code x ≡ true
 
-  abbrev pub ElementTop : List Frame → Type 0
+  abbrev pub ElementTop : List Level → Type 0
   ElementTop [] = Unit {0}
   ElementTop (x ∷ fs) = holds_element x ≡ true
 
-  pub tilde_settled : {fs : List Frame} {out : Nodes} {mid ts : Tokens} {e : Expr} → Open all fs out mid → HoldsTop fs → ReadsTilde mid ts e → Safe all (settled (place_of mid) fs (expr_nodes e out)) ts
+  pub tilde_settled : {fs : List Level} {out : Nodes} {mid ts : Tokens} {e : Expr} → Open all fs out mid → HoldsTop fs → ReadsTilde mid ts e → Safe all (settled (place_of mid) fs (expr_nodes e out)) ts
   unfolding expr_nodes
   tilde_settled (o_attribute_value d w q das n z) h t = g_word (o_attributes d w q (next_attribute das (a_tilde n z t))) refl
   tilde_settled (o_children d w q das c v dcs) h t = g_word (o_children d w q das c v (next_child dcs (c_tilde t))) refl
   tilde_settled d h t = g_value d (value_is _ h) (r_tilde t) (tilde_is t)
 
-  pub dollar_done : {fs : List Frame} {out : Nodes} {mid ts : Tokens} {e : Expr} → Open all fs out mid → HoldsTop fs → ReadsDollar mid ts e → Safe all (dollar_settled (place_of mid) fs (expr_nodes e out)) ts
+  pub dollar_done : {fs : List Level} {out : Nodes} {mid ts : Tokens} {e : Expr} → Open all fs out mid → HoldsTop fs → ReadsDollar mid ts e → Safe all (dollar_settled (place_of mid) fs (expr_nodes e out)) ts
   unfolding expr_nodes
   dollar_done (o_attribute_value d w q das n z) h t = g_word (o_attributes d w q (next_attribute das (a_dollar n z t))) refl
   dollar_done (o_children d w q das c v dcs) h t = g_word (o_children d w q das c v (next_child dcs (c_dollar t))) refl
   dollar_done {mid} {e} d h t = g_value {e = dollar (place_of mid) e} d (value_is _ h) (r_dollar t) refl
 
-  pub element_settled : {fs : List Frame} {out : Nodes} {mid ts : Tokens} {e : Expr} → Open all fs out mid → ElementTop fs → ReadsElement mid ts e → Safe all (settled (place_of mid) fs (expr_nodes e out)) ts
+  pub element_settled : {fs : List Level} {out : Nodes} {mid ts : Tokens} {e : Expr} → Open all fs out mid → ElementTop fs → ReadsElement mid ts e → Safe all (settled (place_of mid) fs (expr_nodes e out)) ts
   unfolding expr_nodes
   element_settled (o_attribute_value d w q das n z) h t = absurd cc
   element_settled (o_children d w q das c v dcs) h t = g_word (o_children d w q das c v (next_child dcs (c_element t))) refl
   element_settled d h t = g_value d (value_is _ h) (r_element t) (element_is t)
 
-  pub body_closed : {x : Frame} {fs : List Frame} {out : Nodes} {begin ts : Tokens} (h : Title) (ns : Names) (ss : Stmts) → Open all (x ∷ fs) out begin → wants x ≡ head_wants (heading_of h) → ReadsFunction h begin ts ns ss
+  pub body_closed : {x : Level} {fs : List Level} {out : Nodes} {begin ts : Tokens} (h : Title) (ns : Names) (ss : Stmts) → Open all (x ∷ fs) out begin → wants x ≡ head_wants (heading_of h) → ReadsFunction h begin ts ns ss
       → Safe all (function_closed (heading_of h) (place_of begin) (names_count ns) (stmts_count ss) (x ∷ fs) (stmts_nodes ss (names_nodes ns (title_nodes h out)))) ts
   unfolding expr_nodes
   body_closed {x} {begin} (a_service m) ns ss d w r = g_finished (declare (place_of begin) (a_service m) ns ss) d (ap takes_block w) (as_item x w (i_function r refl))
@@ -122,7 +122,7 @@ module _ (all : Tokens) where
   body_closed {x} {begin} (a_named_expression m) ns ss d w r = g_value {e = function (place_of begin) (a_named_expression m) ns ss} d w (r_function r refl) refl
   body_closed {x} {begin} an_expression ns ss d w r = g_value {e = function (place_of begin) an_expression ns ss} d w (r_function r refl) refl
 
-  pub closing_brace : {fs : List Frame} {out : Nodes} {ts : Tokens} (t : Token) → terminal t ≡ k.CloseBrace → Open all fs out (t ∷ ts) → Safe all (close_brace fs out) ts
+  pub closing_brace : {fs : List Level} {out : Nodes} {ts : Tokens} (t : Token) → terminal t ≡ k.CloseBrace → Open all fs out (t ∷ ts) → Safe all (close_brace fs out) ts
   unfolding expr_nodes
   closing_brace t q (o_block {x} {o} {ss} d w b dss) = g_finished (block o.place ss) d w (fits_block (wants x) w (block_of b dss q))
   closing_brace t q (o_body {h} {ns} {ss} d w r ps b dss) = body_closed h ns ss d w (function_of r ps b dss q)
@@ -131,18 +131,18 @@ module _ (all : Tokens) where
 
   -- ---- a statement or item
 
-  pub item_safe : {fs : List Frame} {out : Nodes} {ts : Tokens} (t : Token) (h : Heading) → is_expression h ≡ false → terminal t ≡ head_word h → Open all fs out (t ∷ ts) → Safe all (item_by t h fs out) ts
+  pub item_safe : {fs : List Level} {out : Nodes} {ts : Tokens} (t : Token) (h : Heading) → is_expression h ≡ false → terminal t ≡ head_word h → Open all fs out (t ∷ ts) → Safe all (item_by t h fs out) ts
   unfolding expr_nodes
   item_safe t h g q (o_program dss) = g_word (o_function_name h (o_program dss) refl g q) refl
   item_safe t h g q (o_body d w r ps b dss) = g_word (o_function_name h (o_body d w r ps b dss) refl g q) refl
   item_safe t h g q (o_tilde d w b dss) = g_word (o_function_name h (o_tilde d w b dss) refl g q) refl
   item_safe t h g q d = tt
 
-  pub begins : {x : Frame} {fs : List Frame} {out : Nodes} {ts : Tokens} (t : Token) (y : Terminal) → terminal t ≡ y → begins_expression y ≡ true → Open all (x ∷ fs) out (t ∷ ts) → takes_stmt (wants x) ≡ true
+  pub begins : {x : Level} {fs : List Level} {out : Nodes} {ts : Tokens} (t : Token) (y : Terminal) → terminal t ≡ y → begins_expression y ≡ true → Open all (x ∷ fs) out (t ∷ ts) → takes_stmt (wants x) ≡ true
       → Safe all (operand_by t y (f.Expression t.place ∷ x ∷ fs) out) ts
   begins t y q h d w = operand_safe t y q (o_statement d w (ap begins_expression q ∙ h)) refl
 
-  pub statement_safe : {x : Frame} {fs : List Frame} {out : Nodes} {ts : Tokens} (t : Token) (y : Terminal) → terminal t ≡ y → Open all (x ∷ fs) out (t ∷ ts) → takes_stmt (wants x) ≡ true
+  pub statement_safe : {x : Level} {fs : List Level} {out : Nodes} {ts : Tokens} (t : Token) (y : Terminal) → terminal t ≡ y → Open all (x ∷ fs) out (t ∷ ts) → takes_stmt (wants x) ≡ true
       → Safe all (statement_by t y (x ∷ fs) out) ts
   unfolding expr_nodes
   statement_safe t (k.Declare v) q d w = g_word (o_decl_name d w (in_statement q) no_decl) refl
@@ -160,7 +160,7 @@ module _ (all : Tokens) where
   statement_safe t k.Service q d w = item_safe t heading.Service refl q d
   statement_safe t y q d w = begins t y q refl d w
 
-  pub body_safe : {x : Frame} {fs : List Frame} {out : Nodes} {ts : Tokens} (t : Token) (y : Terminal) → terminal t ≡ y → Open all (x ∷ fs) out (t ∷ ts) → wants x ≡ a_body
+  pub body_safe : {x : Level} {fs : List Level} {out : Nodes} {ts : Tokens} (t : Token) (y : Terminal) → terminal t ≡ y → Open all (x ∷ fs) out (t ∷ ts) → wants x ≡ a_body
       → Safe all (body_by t y (x ∷ fs) out) ts
   unfolding expr_nodes
   body_safe t (k.Declare var_kind.Let) q d w = tt
@@ -178,11 +178,11 @@ module _ (all : Tokens) where
   catch_cases t k.Catch a ts g = g refl
   catch_cases t y a ts g = tt
 
-  abbrev pub FitsTop : List Frame → Tokens → Tokens → Stmt → Type 0
+  abbrev pub FitsTop : List Level → Tokens → Tokens → Stmt → Type 0
   FitsTop [] mid rest s = Unit {0}
   FitsTop (x ∷ fs) mid rest s = Fits all (wants x) mid rest s
 
-  pub finished_safe : {fs : List Frame} {out : Nodes} {mid : Tokens} (ts : Tokens) (t : Token) (y : Terminal) → terminal t ≡ y → Open all fs out mid → (s : Stmt) → FitsTop fs mid (t ∷ ts) s
+  pub finished_safe : {fs : List Level} {out : Nodes} {mid : Tokens} (ts : Tokens) (t : Token) (y : Terminal) → terminal t ≡ y → Open all fs out mid → (s : Stmt) → FitsTop fs mid (t ∷ ts) s
       → Safe all (finished_by t y fs (stmt_nodes s out)) ts
   unfolding expr_nodes
   finished_safe ts t y q (o_program dss) s h = statement_safe t y q (o_program (next_item dss h)) refl
@@ -201,14 +201,14 @@ module _ (all : Tokens) where
   finished_safe ts t y q d s h = tt
 
   -- where a statement may end
-  pub ended_safe : {x : Frame} {fs : List Frame} {out : Nodes} {mid : Tokens} (ts : Tokens) (t : Token) (y : Terminal) → terminal t ≡ y → Open all (x ∷ fs) out mid → takes_stmt (wants x) ≡ true → (s : Stmt)
+  pub ended_safe : {x : Level} {fs : List Level} {out : Nodes} {mid : Tokens} (ts : Tokens) (t : Token) (y : Terminal) → terminal t ≡ y → Open all (x ∷ fs) out mid → takes_stmt (wants x) ≡ true → (s : Stmt)
       → ((rest : Tokens) → Ends (t ∷ ts) rest → ReadsStmt mid rest s) → Safe all (ended_by t y (x ∷ fs) (stmt_nodes s out)) ts
   ended_safe ts t k.Semicolon q d w s h = done s d w (h ts (semicolon q))
   ended_safe {x} ts t k.CloseBrace q d w s h = finished_safe ts t k.CloseBrace q d s (fits_stmt (wants x) w (h (t ∷ ts) (before_brace q)))
   ended_safe ts t y q d w s h = tt
 
   -- behind a declaration
-  pub declared_safe : {x : Frame} {fs : List Frame} {out : Nodes} {begin list : Tokens} {d : Declaration} {p : Place} {ds : Decls} (ts : Tokens) (t : Token) (y : Terminal) → terminal t ≡ y → Open all (x ∷ fs) out begin
+  pub declared_safe : {x : Level} {fs : List Level} {out : Nodes} {begin list : Tokens} {d : Declaration} {p : Place} {ds : Decls} (ts : Tokens) (t : Token) (y : Terminal) → terminal t ≡ y → Open all (x ∷ fs) out begin
       → takes_stmt (wants x) ≡ true → DeclsBegin d p begin list → ReadsDecls (kind_of d) list (t ∷ ts) ds → Safe all (declared_by t y d p (decls_count ds) (x ∷ fs) (decls_nodes ds out)) ts
   unfolding expr_nodes
   declared_safe ts t k.Comma q o w b dds = g_word (o_decl_name o w b (some_decls dds q)) refl

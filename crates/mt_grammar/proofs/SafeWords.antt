@@ -1,4 +1,4 @@
--- At a token that the topmost frame names, or in front of an expression that may be left out, the machine stays within a derivation.
+-- At a token that the topmost level names, or in front of an expression that may be left out, the machine stays within a derivation.
 use Rattle.std.proofs.Common.{◌≡◌, ◌+◌, Bool, true, false, cond, List, [], ◌∷◌, ◌++◌, None, refl, ap, ◌∙◌, arith}
 use Rattle.std.proofs.lemmas.Bool.{eqb-true}
 use Rattle.mt_tree.specs.declared.place.Place.{Place}
@@ -13,7 +13,7 @@ use Rattle.mt_grammar.specs.declared.terminal.Terminal.TheVariants as k
 use Rattle.mt_grammar.specs.Token.{Token, Tokens, place_of, terminal, is_word, open_name, close_name}
 use Rattle.mt_grammar.specs.Nodes.{Node, Nodes, names_nodes, title_nodes, key_node, expr_nodes, exprs_nodes, props_nodes, attribute_nodes, attributes_nodes, child_nodes, children_nodes, decl_nodes, decls_nodes, optional_nodes, start_nodes, stmt_nodes, stmts_nodes}
 use Rattle.mt_grammar.specs.Nodes as n
-use Rattle.mt_grammar.specs.Stack.{Frame, Focus}
+use Rattle.mt_grammar.specs.Stack.{Level, Focus}
 use Rattle.mt_grammar.specs.Stack as f
 use Rattle.mt_grammar.specs.Grammar.{mark, tag_mark, needs_value, is_expression, ReadsNames, first_name, next_name, Parameters, no_parameters, parameters, Head, h_expression, IsKey, key_word, key_text, Reads, r_dot, r_call_none, r_array_none, r_array_comma, r_object_none, r_object_comma, first_expr, next_expr, e_self, e_void, e_children, a_plain, a_quoted, ReadsAttributes, no_attribute, next_attribute, c_text, ReadsChildren, no_child, next_child, d_only, ReadsOptional, o_absent, ReadsStart, f_optional, ReadsBlock, s_return, s_jump, no_stmt, no_item}
 use Rattle.mt_grammar.specs.Tree.{Title, heading_of, Key, Names, names_count, Expr, property, array, object, index, call, Exprs, no_exprs, exprs_count, Props, no_props, props_count, attribute_plain, Attributes, attributes_and, attributes_count, Children, children_count, decl_only, Decls, decls_and, decls_count, Optional, absent, Start, start_optional, Stmt, return, jump}
@@ -24,14 +24,14 @@ use Rattle.mt_grammar.proofs.Rows.{with_decl, named_head}
 use Rattle.mt_grammar.proofs.SafeStatements.{either_way, or_refused, operand_safe, element_settled, ended_safe, declared_safe}
 
 module _ (all : Tokens) where
-  -- ---- an expression or the end of the frame
+  -- ---- an expression or the end of the level
 
   pub no_empty_list : {list ts : Tokens} {es : Exprs} → SomeExprs list ts es → exprs_count es ≡ 0 → list ≡ ts
   no_empty_list no_expr h = refl
   no_empty_list (some_exprs (first_expr d) q) h = absurd (omega arith)
   no_empty_list (some_exprs (next_expr ds c d) q) h = absurd (omega arith)
 
-  pub arguments_first : {x : Frame} {fs : List Frame} {out : Nodes} {mid list ts : Tokens} {o : Token} {a : Expr} {es : Exprs} (t : Token) (y : Terminal) → terminal t ≡ y → Open all (x ∷ fs) out mid → wants x ≡ a_value
+  pub arguments_first : {x : Level} {fs : List Level} {out : Nodes} {mid list ts : Tokens} {o : Token} {a : Expr} {es : Exprs} (t : Token) (y : Terminal) → terminal t ≡ y → Open all (x ∷ fs) out mid → wants x ≡ a_value
       → Reads 10 mid (o ∷ list) a → terminal o ≡ k.Open → SomeExprs list (t ∷ ts) es → exprs_count es ≡ 0
       → Safe all (first_by t y (f.Arguments (place_of mid) (exprs_count es) ∷ x ∷ fs) (exprs_nodes es (expr_nodes a out))) ts
   unfolding expr_nodes
@@ -40,45 +40,45 @@ module _ (all : Tokens) where
   arguments_first t k.Close q d w da qo (some_exprs (next_expr ds m de) c) h = absurd (omega arith)
   arguments_first t y q d w da qo some h = operand_safe all t y q (o_arguments d w da qo some) refl
 
-  pub array_first : {x : Frame} {fs : List Frame} {out : Nodes} {list ts : Tokens} {o : Token} {es : Exprs} (t : Token) (y : Terminal) → terminal t ≡ y → Open all (x ∷ fs) out (o ∷ list) → wants x ≡ a_value
+  pub array_first : {x : Level} {fs : List Level} {out : Nodes} {list ts : Tokens} {o : Token} {es : Exprs} (t : Token) (y : Terminal) → terminal t ≡ y → Open all (x ∷ fs) out (o ∷ list) → wants x ≡ a_value
       → terminal o ≡ k.OpenSquare → SomeExprs list (t ∷ ts) es → Safe all (first_by t y (f.Array o.place (exprs_count es) ∷ x ∷ fs) (exprs_nodes es out)) ts
   unfolding expr_nodes
   array_first {o} t k.CloseSquare q d w qo no_expr = g_value {e = array o.place no_exprs} d w (r_array_none qo q) refl
   array_first {o} {es} t k.CloseSquare q d w qo (some_exprs des c) = g_value {e = array o.place es} d w (r_array_comma qo des c q) refl
   array_first t y q d w qo some = operand_safe all t y q (o_array d w qo some) refl
 
-  pub start_first : {x : Frame} {fs : List Frame} {out : Nodes} {i o : Token} {ts : Tokens} (t : Token) (y : Terminal) → terminal t ≡ y → Open all (x ∷ fs) out (i ∷ o ∷ t ∷ ts) → takes_stmt (wants x) ≡ true
+  pub start_first : {x : Level} {fs : List Level} {out : Nodes} {i o : Token} {ts : Tokens} (t : Token) (y : Terminal) → terminal t ≡ y → Open all (x ∷ fs) out (i ∷ o ∷ t ∷ ts) → takes_stmt (wants x) ≡ true
       → terminal i ≡ k.For → terminal o ≡ k.Open → Safe all (first_by t y (f.ForStart i.place ∷ x ∷ fs) out) ts
   unfolding expr_nodes
   start_first t (k.Declare var_kind.Var) q d w qi qo = g_word (o_decl_name d w (in_for qi qo q) no_decl) refl
   start_first t k.Semicolon q d w qi qo = g_first (o_for_test {a = start_optional absent} d w qi qo (f_optional (o_absent q))) refl
   start_first t y q d w qi qo = operand_safe all t y q (o_for_start d w qi qo) refl
 
-  pub test_first : {x : Frame} {fs : List Frame} {out : Nodes} {i o : Token} {one ts : Tokens} {a : Start} (t : Token) (y : Terminal) → terminal t ≡ y → Open all (x ∷ fs) out (i ∷ o ∷ one) → takes_stmt (wants x) ≡ true
+  pub test_first : {x : Level} {fs : List Level} {out : Nodes} {i o : Token} {one ts : Tokens} {a : Start} (t : Token) (y : Terminal) → terminal t ≡ y → Open all (x ∷ fs) out (i ∷ o ∷ one) → takes_stmt (wants x) ≡ true
       → terminal i ≡ k.For → terminal o ≡ k.Open → ReadsStart one (t ∷ ts) a → Safe all (first_by t y (f.ForTest i.place ∷ x ∷ fs) (start_nodes a out)) ts
   unfolding expr_nodes
   test_first t k.Semicolon q d w qi qo da = g_first (o_for_step {b = absent} d w qi qo da (o_absent q)) refl
   test_first t y q d w qi qo da = operand_safe all t y q (o_for_test d w qi qo da) refl
 
-  pub step_first : {x : Frame} {fs : List Frame} {out : Nodes} {i o : Token} {one two ts : Tokens} {a : Start} {b : Optional} (t : Token) (y : Terminal) → terminal t ≡ y → Open all (x ∷ fs) out (i ∷ o ∷ one)
+  pub step_first : {x : Level} {fs : List Level} {out : Nodes} {i o : Token} {one two ts : Tokens} {a : Start} {b : Optional} (t : Token) (y : Terminal) → terminal t ≡ y → Open all (x ∷ fs) out (i ∷ o ∷ one)
       → takes_stmt (wants x) ≡ true → terminal i ≡ k.For → terminal o ≡ k.Open → ReadsStart one two a → ReadsOptional k.Semicolon two (t ∷ ts) b
       → Safe all (first_by t y (f.ForStep i.place ∷ x ∷ fs) (optional_nodes b (start_nodes a out))) ts
   unfolding expr_nodes
   step_first t k.Close q d w qi qo da db = g_body (o_for_body {c = absent} d w qi qo da db (o_absent q)) refl
   step_first t y q d w qi qo da db = operand_safe all t y q (o_for_step d w qi qo da db) refl
 
-  pub return_first : {x : Frame} {fs : List Frame} {out : Nodes} {r : Token} {ts : Tokens} (t : Token) (y : Terminal) → terminal t ≡ y → Open all (x ∷ fs) out (r ∷ t ∷ ts) → takes_stmt (wants x) ≡ true
+  pub return_first : {x : Level} {fs : List Level} {out : Nodes} {r : Token} {ts : Tokens} (t : Token) (y : Terminal) → terminal t ≡ y → Open all (x ∷ fs) out (r ∷ t ∷ ts) → takes_stmt (wants x) ≡ true
       → terminal r ≡ k.Return → Safe all (first_by t y (f.Return r.place ∷ x ∷ fs) out) ts
   unfolding expr_nodes
   return_first {r} {ts} t k.Semicolon q d w qr = ended_safe all ts t k.Semicolon q d w (return r.place absent) (λ r e. s_return qr e)
   return_first {r} {ts} t k.CloseBrace q d w qr = ended_safe all ts t k.CloseBrace q d w (return r.place absent) (λ r e. s_return qr e)
   return_first t y q d w qr = operand_safe all t y q (o_return d w qr) refl
 
-  abbrev pub LeavesTop : List Frame → Type 0
+  abbrev pub LeavesTop : List Level → Type 0
   LeavesTop [] = Unit {0}
   LeavesTop (x ∷ fs) = leaves_out x ≡ true
 
-  pub first_safe : {fs : List Frame} {out : Nodes} {ts : Tokens} (t : Token) → Open all fs out (t ∷ ts) → LeavesTop fs → Safe all (first_by t (terminal t) fs out) ts
+  pub first_safe : {fs : List Level} {out : Nodes} {ts : Tokens} (t : Token) → Open all fs out (t ∷ ts) → LeavesTop fs → Safe all (first_by t (terminal t) fs out) ts
   first_safe t (o_arguments d w da qo some) h = arguments_first t (terminal t) refl d w da qo some (eqb-true _ _ h)
   first_safe t (o_array d w qo some) h = array_first t (terminal t) refl d w qo some
   first_safe t (o_for_start d w qi qo) h = start_first t (terminal t) refl d w qi qo
@@ -88,15 +88,15 @@ module _ (all : Tokens) where
   first_safe t (o_program dss) h = absurd cc
   first_safe t d h = absurd cc
 
-  -- ---- a token that the topmost frame names
+  -- ---- a token that the topmost level names
 
-  pub object_closed : {x : Frame} {fs : List Frame} {out : Nodes} {o : Token} {list ts : Tokens} {ps : Props} (t : Token) → terminal t ≡ k.CloseBrace → Open all (x ∷ fs) out (o ∷ list) → wants x ≡ a_value
+  pub object_closed : {x : Level} {fs : List Level} {out : Nodes} {o : Token} {list ts : Tokens} {ps : Props} (t : Token) → terminal t ≡ k.CloseBrace → Open all (x ∷ fs) out (o ∷ list) → wants x ≡ a_value
       → terminal o ≡ k.OpenBrace → SomeProps list (t ∷ ts) ps → Safe all (at (f.Value o.place false) (x ∷ fs) (props_nodes ps out ++ n.Object o.place (props_count ps) ∷ [])) ts
   unfolding expr_nodes
   object_closed {o} t q d w qo no_prop = g_value {e = object o.place no_props} d w (r_object_none qo q) refl
   object_closed {o} {ps} t q d w qo (some_props dps c) = g_value {e = object o.place ps} d w (r_object_comma qo dps c q) refl
 
-  pub key_safe : {x : Frame} {fs : List Frame} {out : Nodes} {o : Token} {list ts : Tokens} {ps : Props} (t : Token) (y : Terminal) → terminal t ≡ y → Open all (x ∷ fs) out (o ∷ list) → wants x ≡ a_value
+  pub key_safe : {x : Level} {fs : List Level} {out : Nodes} {o : Token} {list ts : Tokens} {ps : Props} (t : Token) (y : Terminal) → terminal t ≡ y → Open all (x ∷ fs) out (o ∷ list) → wants x ≡ a_value
       → terminal o ≡ k.OpenBrace → SomeProps list (t ∷ ts) ps → Safe all (word_by t (f.ObjectKey o.place (props_count ps)) y (x ∷ fs) (props_nodes ps out)) ts
   key_safe t k.CloseBrace q d w qo some = object_closed t q d w qo some
   key_safe t k.Text q d w qo some = g_word (o_object_colon d w qo some (key_text t q)) refl
@@ -104,7 +104,7 @@ module _ (all : Tokens) where
       or_refused all (is_word y) (at f.Word (f.ObjectColon o.place (props_count ps) ∷ x ∷ fs) (props_nodes ps out ++ n.Word (mark t) ∷ [])) ts
       (λ h. g_word (o_object_colon d w qo some (key_word t (ap is_word q ∙ h))) refl)
 
-  module _ {x : Frame} {fs : List Frame} {out : Nodes} (ts : Tokens) (t : Token) where
+  module _ {x : Level} {fs : List Level} {out : Nodes} (ts : Tokens) (t : Token) where
     w_if_open : {i : Token} (y : Terminal) → terminal t ≡ y → Open all (x ∷ fs) out (i ∷ t ∷ ts) → takes_stmt (wants x) ≡ true → terminal i ≡ k.If → Safe all (word_by t (f.IfOpen i.place) y (x ∷ fs) out) ts
     w_if_open k.Open q d w i = g_operand (o_if_test d w i q) refl
     w_if_open y q d w i = tt
@@ -245,7 +245,7 @@ module _ (all : Tokens) where
         or_refused all _ _ ts (λ h. element_settled all d w (e_children qo das c v dcs q (same_bytes (close_name t) (open_name o) h)))
     w_children y q d w qo das c v dcs = tt
 
-  pub word_safe : {x : Frame} {fs : List Frame} {out : Nodes} (ts : Tokens) (t : Token) → Open all (x ∷ fs) out (t ∷ ts) → wants x ≡ a_word → Safe all (word_by t x (terminal t) fs out) ts
+  pub word_safe : {x : Level} {fs : List Level} {out : Nodes} (ts : Tokens) (t : Token) → Open all (x ∷ fs) out (t ∷ ts) → wants x ≡ a_word → Safe all (word_by t x (terminal t) fs out) ts
   unfolding expr_nodes
   word_safe ts t (o_if_open d w i) h = w_if_open ts t (terminal t) refl d w i
   word_safe ts t (o_while_open d w i) h = w_while_open ts t (terminal t) refl d w i

@@ -1,4 +1,4 @@
--- Which frame may stand on which, and the tokens that end what is open.
+-- Which level may stand on which, and the tokens that end what is open.
 use Rattle.std.proofs.Common.{◌≡◌, ℕ, ◌≤◌, Bool, true, false, cond, List, [], ◌∷◌, ◌++◌, drop, codes, refl, sym, ap, ◌∙◌, arith}
 use Rattle.mt_tree.specs.declared.kind.Kind.{Kind}
 use Rattle.mt_tree.specs.declared.kind.Kind.TheVariants as kind
@@ -7,7 +7,7 @@ use Rattle.mt_grammar.specs.declared.terminal.Heading.TheVariants as heading
 use Rattle.mt_grammar.specs.declared.terminal.Infix.{Infix}
 use Rattle.mt_grammar.specs.Token.{Token, Tokens, nowhere, open_name, close_name}
 use Rattle.mt_grammar.specs.Nodes.{Nodes}
-use Rattle.mt_grammar.specs.Stack.{Frame, Focus}
+use Rattle.mt_grammar.specs.Stack.{Level, Focus}
 use Rattle.mt_grammar.specs.Stack as f
 use Rattle.mt_grammar.specs.Grammar.{precedence_of, is_expression}
 use Rattle.mt_grammar.specs.Machine.{awaits_at}
@@ -89,8 +89,8 @@ pub closes_tag : (bs : List ℕ) → IsTagName bs → close_name (closing_tag bs
 unfolding close_name
 closes_tag bs h = ap (λ m. tag_bytes (m ++ 62 ∷ [])) h.1 ∙ tag_again h.0 ∙ sym h.1
 
--- which frame may stand on which
-abbrev pub StandsOn : Frame → Frame → Type 0
+-- which level may stand on which
+abbrev pub StandsOn : Level → Level → Type 0
 StandsOn (f.Program c) x = ⊥
 StandsOn (f.Block p c) x = takes_block (wants x) ≡ true
 StandsOn (f.FunctionBody h p m c) x = wants x ≡ head_wants h
@@ -124,9 +124,9 @@ StandsOn (f.AttributeValue m a) x = holds_element x ≡ true
 StandsOn (f.Children m a c) x = (holds_element x ≡ true) × IsTagName m.text
 StandsOn y x = takes_stmt (wants x) ≡ true
 
-pub data Stands : List Frame → Type 0 where
+pub data Stands : List Level → Type 0 where
   bottom : {c : ℕ} → Stands (f.Program c ∷ [])
-  above : {y x : Frame} {fs : List Frame} → Stands (x ∷ fs) → StandsOn y x → Stands (y ∷ x ∷ fs)
+  above : {y x : Level} {fs : List Level} → Stands (x ∷ fs) → StandsOn y x → Stands (y ∷ x ∷ fs)
 
 pub item_head : (h : Heading) → is_expression h ≡ false → head_wants h ≡ an_item
 item_head heading.Service e = refl
@@ -138,7 +138,7 @@ pub low_enough : (o : Infix) {m : ℕ} → m ≤ precedence_of o → m ≤ 9
 low_enough o h = let b = (precedence_between o).1 in omega arith
 
 module _ (all : Tokens) where
-  pub stands : {fs : List Frame} {out : Nodes} {ts : Tokens} → Open all fs out ts → Stands fs
+  pub stands : {fs : List Level} {out : Nodes} {ts : Tokens} → Open all fs out ts → Stands fs
   stands (o_program p1) = bottom
   stands (o_block st p2 p3 p4) = above (stands st) p2
   stands (o_body st p2 p3 p4 p5 p6) = above (stands st) p2
@@ -203,12 +203,12 @@ stmt_block an_item h = refl
 stmt_block a_statement h = refl
 stmt_block _ h = absurd cc
 
-pub element_code : (x : Frame) → holds_element x ≡ true → holds_code x ≡ true
+pub element_code : (x : Level) → holds_element x ≡ true → holds_code x ≡ true
 element_code (f.AttributeValue m a) h = refl
 element_code (f.Children m a c) h = refl
 element_code _ h = h
 
-pub leaves_value : (x : Frame) → leaves_out x ≡ true → wants x ≡ a_value
+pub leaves_value : (x : Level) → leaves_out x ≡ true → wants x ≡ a_value
 leaves_value (f.Arguments s c) h = refl
 leaves_value (f.Array p c) h = refl
 leaves_value (f.ForStart p) h = refl

@@ -10,7 +10,7 @@ use Rattle.mt_grammar.specs.declared.terminal.Terminal.TheVariants as k
 use Rattle.mt_grammar.specs.Token.{Token, Tokens, place_of, terminal}
 use Rattle.mt_grammar.specs.Tree.{Title, heading_of, Names, Expr, Exprs, Stmts}
 use Rattle.mt_grammar.specs.Nodes.{Nodes}
-use Rattle.mt_grammar.specs.Stack.{Frame, Focus}
+use Rattle.mt_grammar.specs.Stack.{Level, Focus}
 use Rattle.mt_grammar.specs.Stack as f
 use Rattle.mt_grammar.specs.Grammar.{sign_of, begins_expression, begins_single, First, is_expression, Head, h_service, h_declaration, h_named, h_expression, Reads, r_assign, r_up, r_condition, r_operation, r_unary, r_step_before, r_step_after, r_dot, r_index, r_call_none, r_call, r_name, r_number, r_text, r_constant, r_paren, r_array_none, r_array, r_array_comma, r_object_none, r_object, r_object_comma, r_function, r_tilde, r_dollar, r_element, ReadsList, first_expr, next_expr, ReadsFunction, function_of, ReadsTilde, tilde_of, ReadsDollar, dollar_of, ReadsElement, e_self, e_void, e_children}
 use Rattle.mt_grammar.specs.Machine.{at, operand_by, statement_by, body_by, first_by, run}
@@ -96,7 +96,7 @@ pub list_starts : {ts rest : Tokens} {es : Exprs} → ReadsList ts rest es → S
 list_starts (first_expr e) = starts e
 list_starts (next_expr es c e) = list_starts es
 
-pub first_is : (t : Token) (y : Terminal) (fs : List Frame) (out : Nodes) → starter y ≡ true → first_by t y fs out ≡ operand_by t y fs out
+pub first_is : (t : Token) (y : Terminal) (fs : List Level) (out : Nodes) → starter y ≡ true → first_by t y fs out ≡ operand_by t y fs out
 first_is t k.Close fs out h = absurd cc
 first_is t k.CloseSquare fs out h = absurd cc
 first_is t (k.Declare d) fs out h = absurd cc
@@ -104,11 +104,11 @@ first_is t k.Semicolon fs out h = absurd cc
 first_is t k.CloseBrace fs out h = absurd cc
 first_is t _ fs out h = refl
 
-pub first_operand : (ts : Tokens) (fs : List Frame) (out : Nodes) → Starts ts → run ts (at f.First fs out) ≡ run ts (at f.Operand fs out)
+pub first_operand : (ts : Tokens) (fs : List Level) (out : Nodes) → Starts ts → run ts (at f.First fs out) ≡ run ts (at f.Operand fs out)
 first_operand [] fs out h = elim h [ ]
 first_operand (t ∷ ts) fs out h = ap (run ts) (first_is t (terminal t) fs out h)
 
-pub statement_is : (t : Token) (y : Terminal) (fs : List Frame) (out : Nodes) → starter y ≡ true → begins_expression y ≡ true → statement_by t y fs out ≡ operand_by t y (f.Expression t.place ∷ fs) out
+pub statement_is : (t : Token) (y : Terminal) (fs : List Level) (out : Nodes) → starter y ≡ true → begins_expression y ≡ true → statement_by t y fs out ≡ operand_by t y (f.Expression t.place ∷ fs) out
 statement_is t (k.Declare d) fs out h g = absurd cc
 statement_is t k.If fs out h g = absurd cc
 statement_is t k.While fs out h g = absurd cc
@@ -124,11 +124,11 @@ statement_is t k.Function fs out h g = absurd cc
 statement_is t k.Service fs out h g = absurd cc
 statement_is t _ fs out h g = refl
 
-pub statement_operand : (ts : Tokens) (fs : List Frame) (out : Nodes) → Starts ts → First begins_expression ts → run ts (at f.Statement fs out) ≡ run ts (at f.Operand (f.Expression (place_of ts) ∷ fs) out)
+pub statement_operand : (ts : Tokens) (fs : List Level) (out : Nodes) → Starts ts → First begins_expression ts → run ts (at f.Statement fs out) ≡ run ts (at f.Operand (f.Expression (place_of ts) ∷ fs) out)
 statement_operand [] fs out h g = elim h [ ]
 statement_operand (t ∷ ts) fs out h g = ap (run ts) (statement_is t (terminal t) fs out h g)
 
-pub body_is : (t : Token) (y : Terminal) (fs : List Frame) (out : Nodes) → begins_single y ≡ true → body_by t y fs out ≡ statement_by t y (f.Single t.place ∷ fs) out
+pub body_is : (t : Token) (y : Terminal) (fs : List Level) (out : Nodes) → begins_single y ≡ true → body_by t y fs out ≡ statement_by t y (f.Single t.place ∷ fs) out
 body_is t (k.Declare var_kind.Let) fs out h = absurd cc
 body_is t (k.Declare var_kind.Const) fs out h = absurd cc
 body_is t k.OpenBrace fs out h = absurd cc

@@ -3,7 +3,7 @@ use Rattle.std.proofs.Common.{◌≡◌, false, List, [], ◌∷◌, ◌++◌, S
 use Rattle.mt_grammar.specs.Token.{Tokens, nowhere, terminal}
 use Rattle.mt_grammar.specs.Nodes.{Node, Nodes, names_nodes, title_nodes, key_node, expr_nodes, exprs_nodes, props_nodes, attribute_nodes, attributes_nodes, child_nodes, children_nodes, decl_nodes, decls_nodes, optional_nodes, start_nodes, stmt_nodes, stmts_nodes}
 use Rattle.mt_grammar.specs.Nodes as n
-use Rattle.mt_grammar.specs.Stack.{Frame, Focus}
+use Rattle.mt_grammar.specs.Stack.{Level, Focus}
 use Rattle.mt_grammar.specs.Grammar.{mark, no_item}
 use Rattle.mt_grammar.specs.Machine.{Configuration, Next, at, feed, run, after, start, parsed}
 use Rattle.mt_grammar.proofs.Open.{takes_block, o_program, g_statement, g_body, g_operand, g_first, g_word, g_value, g_stepped, g_finished, Good, Safe}
@@ -31,7 +31,7 @@ no_program front h b =
     cc
 
 module _ (all : Tokens) where
-  good_ends : {x : Focus} {fs : List Frame} {out : Nodes} {ts : Tokens} → Good all x fs out ts → CanEnd (at x fs out)
+  good_ends : {x : Focus} {fs : List Level} {out : Nodes} {ts : Tokens} → Good all x fs out ts → CanEnd (at x fs out)
   unfolding terminal
   good_ends (g_statement {out} d w) = statement_begins (stands all d) w out
   good_ends (g_body {x} {fs} {out} d w) =

@@ -17,24 +17,24 @@ use Rattle.mt_grammar.specs.declared.terminal.Terminal.TheVariants as k
 use Rattle.mt_grammar.specs.Token.{Token, Tokens, nowhere, terminal, is_word, close_name}
 use Rattle.mt_grammar.specs.Nodes.{Node, Nodes}
 use Rattle.mt_grammar.specs.Nodes as n
-use Rattle.mt_grammar.specs.Stack.{Frame, Focus}
+use Rattle.mt_grammar.specs.Stack.{Level, Focus}
 use Rattle.mt_grammar.specs.Stack as f
 use Rattle.mt_grammar.specs.Grammar.{mark, tag_mark, precedence_of, step_before, step_after, needs_value}
 
 pub record Configuration : Type 0 where
   pub focus : Focus
-  pub frames : List Frame
+  pub levels : List Level
   pub nodes : Nodes
 
 -- where the machine stands, or nowhere once a token was refused
 abbrev pub Next : Type 0
 Next = Option Configuration
 
-abbrev pub at : Focus → List Frame → Nodes → Next
-at x fs out = Some (record { focus = x; frames = fs; nodes = out })
+abbrev pub at : Focus → List Level → Nodes → Next
+at x fs out = Some (record { focus = x; levels = fs; nodes = out })
 
--- the precedence of expressions that are read above this frame; none is at precedence 11
-abbrev pub awaits_at : Frame → ℕ
+-- the precedence of expressions that are read above this level; none is at precedence 11
+abbrev pub awaits_at : Level → ℕ
 awaits_at (f.Operation o s) = precedence_of o + 1
 awaits_at (f.Unary u p) = 8
 awaits_at (f.StepBefore d p) = 10
@@ -43,7 +43,7 @@ awaits_at (f.AttributeValue m a) = 11
 awaits_at (f.Children m a c) = 11
 awaits_at _ = 0
 
-abbrev pub awaits : List Frame → ℕ
+abbrev pub awaits : List Level → ℕ
 awaits [] = 0
 awaits (x ∷ fs) = awaits_at x
 
@@ -68,8 +68,8 @@ made_at (k.Infix o) = precedence_of o
 made_at k.Question = 1
 made_at _ = 0
 
--- the frame is an operator whose last operand ends before the token
-abbrev pub reduces : Terminal → Bool → Frame → Bool
+-- the level is an operator whose last operand ends before the token
+abbrev pub reduces : Terminal → Bool → Level → Bool
 reduces y v (f.Operation o s) = nat_le (binding y) (precedence_of o)
 reduces y v (f.Unary u p) = nat_le (binding y) 8
 reduces y v (f.StepBefore d p) = v && nat_le (binding y) 9
@@ -78,7 +78,7 @@ reduces y v (f.Assign o s) = nat_le (binding y) 0
 reduces y v (f.CondElse s) = nat_le (binding y) 0
 reduces y v _ = false
 
-abbrev pub start_of : Frame → Place
+abbrev pub start_of : Level → Place
 start_of (f.Operation o s) = s
 start_of (f.Unary u p) = p
 start_of (f.StepBefore d p) = p
@@ -87,7 +87,7 @@ start_of (f.Assign o s) = s
 start_of (f.CondElse s) = s
 start_of _ = nowhere
 
-abbrev pub node_of : Frame → Node
+abbrev pub node_of : Level → Node
 node_of (f.Operation o s) = n.Operation s o
 node_of (f.Unary u p) = n.Unary p u
 node_of (f.StepBefore d p) = n.Step p d
@@ -96,34 +96,34 @@ node_of (f.Assign o s) = n.Assign s o
 node_of (f.CondElse s) = n.Condition s
 node_of _ = n.Absent
 
--- the frames that hold items
-abbrev pub takes_items : List Frame → Bool
+-- the levels that hold items
+abbrev pub takes_items : List Level → Bool
 takes_items (f.Program c ∷ fs) = true
 takes_items (f.FunctionBody h p m c ∷ fs) = true
 takes_items (f.Tilde p c ∷ fs) = true
 takes_items _ = false
 
 -- a tilde or an element that began there is finished
-abbrev pub settled : Place → List Frame → Nodes → Next
+abbrev pub settled : Place → List Level → Nodes → Next
 settled p (f.AttributeValue m a ∷ fs) out = at f.Word (f.Attributes m a false ∷ fs) (out ++ n.AttributeTilde ∷ [])
 settled p (f.Children m a c ∷ fs) out = at f.Word (f.Children m a (c + 1) ∷ fs) (out ++ n.ChildDirect ∷ [])
 settled p fs out = at (f.Value p false) fs out
 
 -- a dollar that began there is finished
-abbrev pub dollar_settled : Place → List Frame → Nodes → Next
+abbrev pub dollar_settled : Place → List Level → Nodes → Next
 dollar_settled p (f.AttributeValue m a ∷ fs) out = at f.Word (f.Attributes m a false ∷ fs) (out ++ n.AttributeDollar ∷ [])
 dollar_settled p (f.Children m a c ∷ fs) out = at f.Word (f.Children m a (c + 1) ∷ fs) (out ++ n.ChildDollar ∷ [])
 dollar_settled p fs out = at (f.Value p false) fs (out ++ n.Dollar p ∷ [])
 
 -- a function with so many parameters and statements is finished
-abbrev pub function_closed : Heading → Place → ℕ → ℕ → List Frame → Nodes → Next
+abbrev pub function_closed : Heading → Place → ℕ → ℕ → List Level → Nodes → Next
 function_closed heading.Service p m c fs out = at f.Finished fs (out ++ n.Declare p heading.Service m c ∷ [])
 function_closed heading.Declaration p m c fs out = at f.Finished fs (out ++ n.Declare p heading.Declaration m c ∷ [])
 function_closed heading.NamedExpression p m c fs out = at (f.Value p false) fs (out ++ n.Function p heading.NamedExpression m c ∷ [])
 function_closed heading.Expression p m c fs out = at (f.Value p false) fs (out ++ n.Function p heading.Expression m c ∷ [])
 
 -- a closing brace where a statement can stand
-abbrev pub close_brace : List Frame → Nodes → Next
+abbrev pub close_brace : List Level → Nodes → Next
 close_brace (f.Block p c ∷ fs) out = at f.Finished fs (out ++ n.Block p c ∷ [])
 close_brace (f.FunctionBody h p m c ∷ fs) out = function_closed h p m c fs out
 close_brace (f.Tilde p c ∷ fs) out = settled p fs (out ++ n.Tilde p c ∷ [])
@@ -135,10 +135,10 @@ kind_of declaration.ForStart = var_kind.Var
 
 module _ (t : Token) where
   -- an operator before its operand
-  abbrev pub prefix_by : Frame → List Frame → Nodes → Next
+  abbrev pub prefix_by : Level → List Level → Nodes → Next
   prefix_by x fs out = if nat_le (awaits fs) 8 then at f.Operand (x ∷ fs) out else None
 
-  abbrev pub operand_by : Terminal → List Frame → Nodes → Next
+  abbrev pub operand_by : Terminal → List Level → Nodes → Next
   operand_by k.Name fs out = at (f.Value t.place true) fs (out ++ n.Name (mark t) ∷ [])
   operand_by k.Number fs out = at (f.Value t.place false) fs (out ++ n.Number (mark t) ∷ [])
   operand_by k.Text fs out = at (f.Value t.place false) fs (out ++ n.Text (mark t) ∷ [])
@@ -158,10 +158,10 @@ module _ (t : Token) where
   operand_by _ fs out = None
 
   -- the word of a function or service where an item can stand
-  abbrev pub item_by : Heading → List Frame → Nodes → Next
+  abbrev pub item_by : Heading → List Level → Nodes → Next
   item_by h fs out = if takes_items fs then at f.Word (f.FunctionName h t.place ∷ fs) out else None
 
-  abbrev pub statement_by : Terminal → List Frame → Nodes → Next
+  abbrev pub statement_by : Terminal → List Level → Nodes → Next
   statement_by (k.Declare d) fs out = at f.Word (f.DeclName (declaration.Statement d) t.place 0 ∷ fs) out
   statement_by k.If fs out = at f.Word (f.IfOpen t.place ∷ fs) out
   statement_by k.While fs out = at f.Word (f.WhileOpen t.place ∷ fs) out
@@ -177,7 +177,7 @@ module _ (t : Token) where
   statement_by k.Service fs out = item_by heading.Service fs out
   statement_by y fs out = operand_by y (f.Expression t.place ∷ fs) out
 
-  abbrev pub body_by : Terminal → List Frame → Nodes → Next
+  abbrev pub body_by : Terminal → List Level → Nodes → Next
   body_by (k.Declare var_kind.Let) fs out = None
   body_by (k.Declare var_kind.Const) fs out = None
   body_by k.OpenBrace fs out = at f.Statement (f.Block t.place 0 ∷ fs) out
@@ -191,8 +191,8 @@ module _ (t : Token) where
   catch_by k.Catch next = next
   catch_by _ next = None
 
-  -- after a statement, at a frame that goes on
-  abbrev pub hold_by : Terminal → Frame → List Frame → Nodes → Next
+  -- after a statement, at a level that goes on
+  abbrev pub hold_by : Terminal → Level → List Level → Nodes → Next
   hold_by y (f.Program c) fs out = statement_by y (f.Program (c + 1) ∷ fs) out
   hold_by y (f.Block p c) fs out = statement_by y (f.Block p (c + 1) ∷ fs) out
   hold_by y (f.FunctionBody h p m c) fs out = statement_by y (f.FunctionBody h p m (c + 1) ∷ fs) out
@@ -201,7 +201,7 @@ module _ (t : Token) where
   hold_by y _ fs out = None
 
   -- after a statement
-  abbrev pub finished_by : Terminal → List Frame → Nodes → Next
+  abbrev pub finished_by : Terminal → List Level → Nodes → Next
   finished_by y (f.Single p ∷ fs) out = finished_by y fs (out ++ n.Block p 1 ∷ [])
   finished_by y (f.IfThen p ∷ fs) out = else_or y (at f.Body (f.IfElse p ∷ fs) out) (finished_by y fs (out ++ n.If p ∷ []))
   finished_by y (f.IfElse p ∷ fs) out = finished_by y fs (out ++ n.IfElse p ∷ [])
@@ -212,13 +212,13 @@ module _ (t : Token) where
   finished_by y [] out = None
 
   -- after a statement that may end here
-  abbrev pub ended_by : Terminal → List Frame → Nodes → Next
+  abbrev pub ended_by : Terminal → List Level → Nodes → Next
   ended_by k.Semicolon fs out = at f.Finished fs out
   ended_by k.CloseBrace fs out = finished_by k.CloseBrace fs out
   ended_by _ fs out = None
 
   -- after a declaration, of which there are so many
-  abbrev pub declared_by : Terminal → Declaration → Place → ℕ → List Frame → Nodes → Next
+  abbrev pub declared_by : Terminal → Declaration → Place → ℕ → List Level → Nodes → Next
   declared_by k.Comma d p c fs out = at f.Word (f.DeclName d p c ∷ fs) out
   declared_by k.Semicolon declaration.ForStart p c fs out = at f.First (f.ForTest p ∷ fs) (out ++ n.StartVars c ∷ [])
   declared_by y (declaration.Statement d) p c fs out = ended_by y fs (out ++ n.Var p d c ∷ [])
@@ -229,8 +229,8 @@ module _ (t : Token) where
   start_by var_kind.Var next = next
   start_by _ next = None
 
-  -- an expression, or the token that ends the frame without one
-  abbrev pub first_by : Terminal → List Frame → Nodes → Next
+  -- an expression, or the token that ends the level without one
+  abbrev pub first_by : Terminal → List Level → Nodes → Next
   first_by k.Close (f.Arguments s c ∷ fs) out = at (f.Value s false) fs (out ++ n.Call s c ∷ [])
   first_by k.CloseSquare (f.Array p c ∷ fs) out = at (f.Value p false) fs (out ++ n.Array p c ∷ [])
   first_by (k.Declare d) (f.ForStart p ∷ fs) out = start_by d (at f.Word (f.DeclName declaration.ForStart p 0 ∷ fs) out)
@@ -241,8 +241,8 @@ module _ (t : Token) where
   first_by k.CloseBrace (f.Return p ∷ fs) out = ended_by k.CloseBrace fs (out ++ n.Absent ∷ [] ++ n.Return p ∷ [])
   first_by y fs out = operand_by y fs out
 
-  -- a token that the frame names
-  abbrev pub word_by : Frame → Terminal → List Frame → Nodes → Next
+  -- a token that the level names
+  abbrev pub word_by : Level → Terminal → List Level → Nodes → Next
   word_by (f.IfOpen p) k.Open fs out = at f.Operand (f.IfTest p ∷ fs) out
   word_by (f.WhileOpen p) k.Open fs out = at f.Operand (f.WhileTest p ∷ fs) out
   word_by (f.ForOpen p) k.Open fs out = at f.First (f.ForStart p ∷ fs) out
@@ -285,7 +285,7 @@ module _ (t : Token) where
   word_by _ _ fs out = None
 
   -- after an expression that ends a statement
-  abbrev pub stop_by : Terminal → Frame → List Frame → Nodes → Next
+  abbrev pub stop_by : Terminal → Level → List Level → Nodes → Next
   stop_by y (f.DeclValue d p c) fs out = declared_by y d p c fs (out ++ n.DeclValue ∷ [])
   stop_by y (f.Return p) fs out = ended_by y fs (out ++ n.Present ∷ [] ++ n.Return p ∷ [])
   stop_by y (f.Throw p) fs out = ended_by y fs (out ++ n.Throw p ∷ [])
@@ -293,7 +293,7 @@ module _ (t : Token) where
   stop_by y _ fs out = None
 
   -- after an expression, at a token that ends it
-  abbrev pub close_by : Terminal → Bool → Frame → List Frame → Nodes → Next
+  abbrev pub close_by : Terminal → Bool → Level → List Level → Nodes → Next
   close_by k.Close v (f.Paren p) fs out = at (f.Value p v) fs out
   close_by k.Close v (f.IfTest p) fs out = at f.Body (f.IfThen p ∷ fs) out
   close_by k.Close v (f.WhileTest p) fs out = at f.Body (f.WhileBody p ∷ fs) out
@@ -315,7 +315,7 @@ module _ (t : Token) where
   close_by _ v _ fs out = None
 
   -- after an expression that no operator on the stack takes
-  abbrev pub shift_by : Terminal → Place → Bool → Frame → List Frame → Nodes → Next
+  abbrev pub shift_by : Terminal → Place → Bool → Level → List Level → Nodes → Next
   shift_by k.Dot s v x fs out = at f.Word (f.Dot s ∷ x ∷ fs) out
   shift_by k.OpenSquare s v x fs out = at f.Operand (f.Index s ∷ x ∷ fs) out
   shift_by k.Open s v x fs out = at f.First (f.Arguments s 0 ∷ x ∷ fs) out
@@ -326,18 +326,18 @@ module _ (t : Token) where
   shift_by y s v x fs out = close_by y v x fs out
 
   -- after an expression
-  abbrev pub value_by : Terminal → Place → Bool → List Frame → Nodes → Next
+  abbrev pub value_by : Terminal → Place → Bool → List Level → Nodes → Next
   value_by y s v [] out = None
   value_by y s v (x ∷ fs) out =
       if reduces y v x then value_by y (start_of x) false fs (out ++ node_of x ∷ [])
       else if nat_le (awaits_at x) (made_at y) then shift_by y s v x fs out
       else None
 
-  abbrev pub word_step : List Frame → Nodes → Next
+  abbrev pub word_step : List Level → Nodes → Next
   word_step [] out = None
   word_step (x ∷ fs) out = word_by x (terminal t) fs out
 
-  abbrev pub feed_by : Focus → List Frame → Nodes → Next
+  abbrev pub feed_by : Focus → List Level → Nodes → Next
   feed_by f.Statement fs out = statement_by (terminal t) fs out
   feed_by f.Body fs out = body_by (terminal t) fs out
   feed_by f.Operand fs out = operand_by (terminal t) fs out
@@ -347,7 +347,7 @@ module _ (t : Token) where
   feed_by f.Finished fs out = finished_by (terminal t) fs out
 
 -- the end of the tokens, after a statement
-abbrev pub end_finished : List Frame → Nodes → Option Nodes
+abbrev pub end_finished : List Level → Nodes → Option Nodes
 end_finished (f.Single p ∷ fs) out = end_finished fs (out ++ n.Block p 1 ∷ [])
 end_finished (f.IfThen p ∷ fs) out = end_finished fs (out ++ n.If p ∷ [])
 end_finished (f.IfElse p ∷ fs) out = end_finished fs (out ++ n.IfElse p ∷ [])
@@ -357,22 +357,22 @@ end_finished (f.CatchBlock p ∷ fs) out = end_finished fs (out ++ n.Try p ∷ [
 end_finished (f.Program c ∷ fs) out = Some out
 end_finished _ out = None
 
-abbrev pub end_statement : List Frame → Nodes → Option Nodes
+abbrev pub end_statement : List Level → Nodes → Option Nodes
 end_statement (f.Program c ∷ fs) out = Some out
 end_statement _ out = None
 
-abbrev pub end_by : Focus → List Frame → Nodes → Option Nodes
+abbrev pub end_by : Focus → List Level → Nodes → Option Nodes
 end_by f.Statement fs out = end_statement fs out
 end_by f.Finished fs out = end_finished fs out
 end_by _ fs out = None
 
 abbrev pub feed : Token → Next → Next
 feed t None = None
-feed t (Some c) = feed_by t c.focus c.frames c.nodes
+feed t (Some c) = feed_by t c.focus c.levels c.nodes
 
 abbrev pub finish : Next → Option Nodes
 finish None = None
-finish (Some c) = end_by c.focus c.frames c.nodes
+finish (Some c) = end_by c.focus c.levels c.nodes
 
 abbrev pub run : Tokens → Next → Option Nodes
 run [] s = finish s

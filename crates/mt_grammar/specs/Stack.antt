@@ -11,73 +11,73 @@ use Rattle.mt_grammar.specs.declared.terminal.Jump.{Jump as JumpWord}
 use Rattle.mt_grammar.specs.Tree.{Mark}
 
 -- The place is where the open part began; a number counts what is finished in it.
-pub data Frame : Type 0 where
+pub data Level : Type 0 where
   -- statements and items
-  Program : ℕ → Frame
-  Block : Place → ℕ → Frame
+  Program : ℕ → Level
+  Block : Place → ℕ → Level
   -- with the number of its parameters
-  FunctionBody : Heading → Place → ℕ → ℕ → Frame
-  Tilde : Place → ℕ → Frame
+  FunctionBody : Heading → Place → ℕ → ℕ → Level
+  Tilde : Place → ℕ → Level
   -- the one statement of a body that is no block
-  Single : Place → Frame
+  Single : Place → Level
   -- parts of statements
-  IfOpen : Place → Frame
-  IfTest : Place → Frame
-  IfThen : Place → Frame
-  IfElse : Place → Frame
-  WhileOpen : Place → Frame
-  WhileTest : Place → Frame
-  WhileBody : Place → Frame
-  ForOpen : Place → Frame
-  ForStart : Place → Frame
-  ForTest : Place → Frame
-  ForStep : Place → Frame
-  ForBody : Place → Frame
+  IfOpen : Place → Level
+  IfTest : Place → Level
+  IfThen : Place → Level
+  IfElse : Place → Level
+  WhileOpen : Place → Level
+  WhileTest : Place → Level
+  WhileBody : Place → Level
+  ForOpen : Place → Level
+  ForStart : Place → Level
+  ForTest : Place → Level
+  ForStep : Place → Level
+  ForBody : Place → Level
   -- in front of a name, behind one, and behind its `=`
-  DeclName : Declaration → Place → ℕ → Frame
-  DeclNext : Declaration → Place → ℕ → Frame
-  DeclValue : Declaration → Place → ℕ → Frame
-  Return : Place → Frame
-  Jump : Place → JumpWord → Frame
-  Throw : Place → Frame
-  Expression : Place → Frame
-  TryOpen : Place → Frame
-  TryBlock : Place → Frame
-  CatchOpen : Place → Frame
-  CatchName : Place → Frame
-  CatchClose : Place → Frame
-  CatchBrace : Place → Frame
-  CatchBlock : Place → Frame
+  DeclName : Declaration → Place → ℕ → Level
+  DeclNext : Declaration → Place → ℕ → Level
+  DeclValue : Declaration → Place → ℕ → Level
+  Return : Place → Level
+  Jump : Place → JumpWord → Level
+  Throw : Place → Level
+  Expression : Place → Level
+  TryOpen : Place → Level
+  TryBlock : Place → Level
+  CatchOpen : Place → Level
+  CatchName : Place → Level
+  CatchClose : Place → Level
+  CatchBrace : Place → Level
+  CatchBlock : Place → Level
   -- parts of functions
-  FunctionStart : Place → Frame
-  FunctionName : Heading → Place → Frame
-  FunctionOpen : Heading → Place → Frame
-  FunctionFirst : Heading → Place → Frame
-  FunctionNext : Heading → Place → ℕ → Frame
-  ParameterName : Heading → Place → ℕ → Frame
-  FunctionBrace : Heading → Place → ℕ → Frame
+  FunctionStart : Place → Level
+  FunctionName : Heading → Place → Level
+  FunctionOpen : Heading → Place → Level
+  FunctionFirst : Heading → Place → Level
+  FunctionNext : Heading → Place → ℕ → Level
+  ParameterName : Heading → Place → ℕ → Level
+  FunctionBrace : Heading → Place → ℕ → Level
   -- parts of expressions
-  Paren : Place → Frame
-  Operation : Infix → Place → Frame
-  Unary : UnarySign → Place → Frame
-  StepBefore : StepKind → Place → Frame
-  StepAfter : StepKind → Place → Frame
-  Assign : Option Binary → Place → Frame
-  CondTest : Place → Frame
-  CondElse : Place → Frame
-  Dot : Place → Frame
-  Index : Place → Frame
-  Arguments : Place → ℕ → Frame
-  Array : Place → ℕ → Frame
-  ObjectKey : Place → ℕ → Frame
-  ObjectColon : Place → ℕ → Frame
-  ObjectValue : Place → ℕ → Frame
-  Dollar : Place → Frame
+  Paren : Place → Level
+  Operation : Infix → Place → Level
+  Unary : UnarySign → Place → Level
+  StepBefore : StepKind → Place → Level
+  StepAfter : StepKind → Place → Level
+  Assign : Option Binary → Place → Level
+  CondTest : Place → Level
+  CondElse : Place → Level
+  Dot : Place → Level
+  Index : Place → Level
+  Arguments : Place → ℕ → Level
+  Array : Place → ℕ → Level
+  ObjectKey : Place → ℕ → Level
+  ObjectColon : Place → ℕ → Level
+  ObjectValue : Place → ℕ → Level
+  Dollar : Place → Level
   -- parts of elements, with the tag's name: the flag says whether a `=` may follow
-  Attributes : Mark → ℕ → Bool → Frame
-  AttributeValue : Mark → ℕ → Frame
+  Attributes : Mark → ℕ → Bool → Level
+  AttributeValue : Mark → ℕ → Level
   -- with the number of its attributes
-  Children : Mark → ℕ → ℕ → Frame
+  Children : Mark → ℕ → ℕ → Level
 
 pub data Focus : Type 0 where
   -- a statement or item, or the end of what holds it
@@ -86,9 +86,9 @@ pub data Focus : Type 0 where
   Body : Focus
   -- an expression
   Operand : Focus
-  -- an expression, or the token that ends the topmost frame without one
+  -- an expression, or the token that ends the topmost level without one
   First : Focus
-  -- a token that the topmost frame names
+  -- a token that the topmost level names
   Word : Focus
   -- what follows an expression that began there; the flag says whether it can be assigned to
   Value : Place → Bool → Focus

@@ -1,4 +1,4 @@
--- The frames that the machine leaves open behind a token count at most two finished parts more than those before it.
+-- The levels that the machine leaves open behind a token count at most two finished parts more than those before it.
 use Rattle.std.proofs.Common.{ℕ, suc, ◌+◌, ◌≤◌, Bool, true, false, List, [], ◌∷◌, ◌++◌, Some, None, cond, length, arith, nat_le}
 use Rattle.mt_tree.specs.declared.place.Place.{Place}
 use Rattle.mt_tree.specs.Tables.{is_void_tag}
@@ -17,15 +17,15 @@ use Rattle.mt_grammar.specs.Token.{Token, Tokens, close_name, terminal, is_word}
 use Rattle.mt_grammar.specs.Grammar.{mark, needs_value}
 use Rattle.mt_grammar.specs.Nodes.{Nodes}
 use Rattle.mt_grammar.specs.Nodes as node
-use Rattle.mt_grammar.specs.Stack.{Frame, Focus}
+use Rattle.mt_grammar.specs.Stack.{Level, Focus}
 use Rattle.mt_grammar.specs.Stack as f
 use Rattle.mt_grammar.specs.Machine.{Next, at, after, feed, feed_by, awaits, awaits_at, made_at, start_of, reduces, takes_items, kind_of, settled, dollar_settled, function_closed, close_brace, operand_by, statement_by, body_by, else_or, catch_by, hold_by, finished_by, ended_by, declared_by, start_by, first_by, word_by, stop_by, close_by, shift_by, value_by}
 use Rattle.mt_parser_machine.specs.Counts.{count_of, counted}
 
--- where the machine goes on, its frames count at most that many parts
+-- where the machine goes on, its levels count at most that many parts
 abbrev pub AtMost : ℕ → Next → Type 0
 AtMost n None = Unit {0}
-AtMost n (Some c) = counted c.frames ≤ n
+AtMost n (Some c) = counted c.levels ≤ n
 
 either : (b : Bool) (n : ℕ) (p q : Next) → AtMost n p → AtMost n q → AtMost n (cond b p q)
 either true n p q g h = g
@@ -37,30 +37,30 @@ if_any b n p g = either b n p None g tt
 unless : (b : Bool) (n : ℕ) (p : Next) → AtMost n p → AtMost n (cond b None p)
 unless b n p g = either b n None p tt g
 
-settled_few : (n : ℕ) (p : Place) (fs : List Frame) (out : Nodes) → counted fs + 1 ≤ n → AtMost n (settled p fs out)
+settled_few : (n : ℕ) (p : Place) (fs : List Level) (out : Nodes) → counted fs + 1 ≤ n → AtMost n (settled p fs out)
 settled_few n p [] out h = omega arith
 settled_few n p (f.Children m a c ∷ fs) out h = omega arith
 settled_few n p (x ∷ fs) out h = omega arith
 
-dollar_few : (n : ℕ) (p : Place) (fs : List Frame) (out : Nodes) → counted fs + 1 ≤ n → AtMost n (dollar_settled p fs out)
+dollar_few : (n : ℕ) (p : Place) (fs : List Level) (out : Nodes) → counted fs + 1 ≤ n → AtMost n (dollar_settled p fs out)
 dollar_few n p [] out h = omega arith
 dollar_few n p (f.Children m a c ∷ fs) out h = omega arith
 dollar_few n p (x ∷ fs) out h = omega arith
 
-closed_few : (n : ℕ) (h : Heading) (p : Place) (m c : ℕ) (fs : List Frame) (out : Nodes) → counted fs ≤ n → AtMost n (function_closed h p m c fs out)
+closed_few : (n : ℕ) (h : Heading) (p : Place) (m c : ℕ) (fs : List Level) (out : Nodes) → counted fs ≤ n → AtMost n (function_closed h p m c fs out)
 closed_few n heading.Service p m c fs out g = g
 closed_few n heading.Declaration p m c fs out g = g
 closed_few n heading.NamedExpression p m c fs out g = g
 closed_few n heading.Expression p m c fs out g = g
 
-brace_few : (n : ℕ) (fs : List Frame) (out : Nodes) → counted fs + 1 ≤ n → AtMost n (close_brace fs out)
+brace_few : (n : ℕ) (fs : List Level) (out : Nodes) → counted fs + 1 ≤ n → AtMost n (close_brace fs out)
 brace_few n (f.Block p c ∷ fs) out g = omega arith
 brace_few n (f.FunctionBody h p m c ∷ fs) out g = closed_few n h p m c fs out (omega arith)
 brace_few n (f.Tilde p c ∷ fs) out g = settled_few n p fs _ (omega arith)
 brace_few n _ out g = tt
 
 module _ (t : Token) (n : ℕ) where
-  operand_few : (y : Terminal) (fs : List Frame) (out : Nodes) → counted fs ≤ n → AtMost n (operand_by t y fs out)
+  operand_few : (y : Terminal) (fs : List Level) (out : Nodes) → counted fs ≤ n → AtMost n (operand_by t y fs out)
   operand_few k.Name fs out g = g
   operand_few k.Number fs out g = g
   operand_few k.Text fs out g = g
@@ -79,7 +79,7 @@ module _ (t : Token) (n : ℕ) where
   operand_few k.TagOpen fs out g = omega arith
   operand_few _ fs out g = tt
 
-  statement_few : (y : Terminal) (fs : List Frame) (out : Nodes) → counted fs + 1 ≤ n → AtMost n (statement_by t y fs out)
+  statement_few : (y : Terminal) (fs : List Level) (out : Nodes) → counted fs + 1 ≤ n → AtMost n (statement_by t y fs out)
   statement_few (k.Declare d) fs out g = omega arith
   statement_few k.If fs out g = omega arith
   statement_few k.While fs out g = omega arith
@@ -95,7 +95,7 @@ module _ (t : Token) (n : ℕ) where
   statement_few k.Service fs out g = if_any (takes_items fs) n _ (omega arith)
   statement_few y fs out g = operand_few y (f.Expression t.place ∷ fs) out (omega arith)
 
-  body_few : (y : Terminal) (fs : List Frame) (out : Nodes) → counted fs + 1 ≤ n → AtMost n (body_by t y fs out)
+  body_few : (y : Terminal) (fs : List Level) (out : Nodes) → counted fs + 1 ≤ n → AtMost n (body_by t y fs out)
   body_few (k.Declare var_kind.Let) fs out g = tt
   body_few (k.Declare var_kind.Const) fs out g = tt
   body_few k.OpenBrace fs out g = omega arith
@@ -105,7 +105,7 @@ module _ (t : Token) (n : ℕ) where
   catch_few k.Catch s g = g
   catch_few _ s g = tt
 
-  hold_few : (y : Terminal) (x : Frame) (fs : List Frame) (out : Nodes) → count_of x + counted fs + 2 ≤ n → AtMost n (hold_by t y x fs out)
+  hold_few : (y : Terminal) (x : Level) (fs : List Level) (out : Nodes) → count_of x + counted fs + 2 ≤ n → AtMost n (hold_by t y x fs out)
   hold_few y (f.Program c) fs out g = statement_few y (f.Program (c + 1) ∷ fs) out (omega arith)
   hold_few y (f.Block p c) fs out g = statement_few y (f.Block p (c + 1) ∷ fs) out (omega arith)
   hold_few y (f.FunctionBody h p m c) fs out g = statement_few y (f.FunctionBody h p m (c + 1) ∷ fs) out (omega arith)
@@ -117,7 +117,7 @@ module _ (t : Token) (n : ℕ) where
   else_few k.Else p q g h = g
   else_few _ p q g h = h
 
-  finished_few : (y : Terminal) (fs : List Frame) (out : Nodes) → counted fs + 2 ≤ n → AtMost n (finished_by t y fs out)
+  finished_few : (y : Terminal) (fs : List Level) (out : Nodes) → counted fs + 2 ≤ n → AtMost n (finished_by t y fs out)
   finished_few y [] out g = tt
   finished_few y (f.Single p ∷ fs) out g = finished_few y fs _ (omega arith)
   finished_few y (f.IfThen p ∷ fs) out g = else_few y _ _ (omega arith) (finished_few y fs _ (omega arith))
@@ -127,12 +127,12 @@ module _ (t : Token) (n : ℕ) where
   finished_few y (f.CatchBlock p ∷ fs) out g = finished_few y fs _ (omega arith)
   finished_few y (x ∷ fs) out g = hold_few y x fs out g
 
-  ended_few : (y : Terminal) (fs : List Frame) (out : Nodes) → counted fs + 2 ≤ n → AtMost n (ended_by t y fs out)
+  ended_few : (y : Terminal) (fs : List Level) (out : Nodes) → counted fs + 2 ≤ n → AtMost n (ended_by t y fs out)
   ended_few k.Semicolon fs out g = omega arith
   ended_few k.CloseBrace fs out g = finished_few k.CloseBrace fs out g
   ended_few _ fs out g = tt
 
-  declared_few : (y : Terminal) (d : Declaration) (p : Place) (c : ℕ) (fs : List Frame) (out : Nodes) → c + counted fs + 2 ≤ n → AtMost n (declared_by t y d p c fs out)
+  declared_few : (y : Terminal) (d : Declaration) (p : Place) (c : ℕ) (fs : List Level) (out : Nodes) → c + counted fs + 2 ≤ n → AtMost n (declared_by t y d p c fs out)
   declared_few k.Comma d p c fs out g = omega arith
   declared_few k.Semicolon declaration.ForStart p c fs out g = omega arith
   declared_few y (declaration.Statement d) p c fs out g = ended_few y fs (out ++ node.Var p d c ∷ []) (omega arith)
@@ -142,7 +142,7 @@ module _ (t : Token) (n : ℕ) where
   start_few var_kind.Var s g = g
   start_few _ s g = tt
 
-  first_few : (y : Terminal) (fs : List Frame) (out : Nodes) → counted fs + 2 ≤ n → AtMost n (first_by t y fs out)
+  first_few : (y : Terminal) (fs : List Level) (out : Nodes) → counted fs + 2 ≤ n → AtMost n (first_by t y fs out)
   first_few k.Close (f.Arguments s c ∷ fs) out g = omega arith
   first_few k.CloseSquare (f.Array p c ∷ fs) out g = omega arith
   first_few (k.Declare d) (f.ForStart p ∷ fs) out g = start_few d _ (omega arith)
@@ -153,7 +153,7 @@ module _ (t : Token) (n : ℕ) where
   first_few k.CloseBrace (f.Return p ∷ fs) out g = finished_few k.CloseBrace fs _ (omega arith)
   first_few y fs out g = operand_few y fs out (omega arith)
 
-  word_few : (x : Frame) (y : Terminal) (fs : List Frame) (out : Nodes) → count_of x + counted fs + 2 ≤ n → AtMost n (word_by t x y fs out)
+  word_few : (x : Level) (y : Terminal) (fs : List Level) (out : Nodes) → count_of x + counted fs + 2 ≤ n → AtMost n (word_by t x y fs out)
   word_few (f.IfOpen p) k.Open fs out g = omega arith
   word_few (f.WhileOpen p) k.Open fs out g = omega arith
   word_few (f.ForOpen p) k.Open fs out g = omega arith
@@ -195,14 +195,14 @@ module _ (t : Token) (n : ℕ) where
   word_few (f.Children m a c) k.CloseTag fs out g = if_any (bytes_eq (close_name t) m.text) n _ (settled_few n m.place fs _ (omega arith))
   word_few _ _ fs out g = tt
 
-  stop_few : (y : Terminal) (x : Frame) (fs : List Frame) (out : Nodes) → count_of x + counted fs + 2 ≤ n → AtMost n (stop_by t y x fs out)
+  stop_few : (y : Terminal) (x : Level) (fs : List Level) (out : Nodes) → count_of x + counted fs + 2 ≤ n → AtMost n (stop_by t y x fs out)
   stop_few y (f.DeclValue d p c) fs out g = declared_few y d p c fs _ g
   stop_few y (f.Return p) fs out g = ended_few y fs _ (omega arith)
   stop_few y (f.Throw p) fs out g = ended_few y fs _ (omega arith)
   stop_few y (f.Expression p) fs out g = ended_few y fs _ (omega arith)
   stop_few y _ fs out g = tt
 
-  close_few : (y : Terminal) (v : Bool) (x : Frame) (fs : List Frame) (out : Nodes) → count_of x + counted fs + 2 ≤ n → AtMost n (close_by t y v x fs out)
+  close_few : (y : Terminal) (v : Bool) (x : Level) (fs : List Level) (out : Nodes) → count_of x + counted fs + 2 ≤ n → AtMost n (close_by t y v x fs out)
   close_few k.Close v (f.Paren p) fs out g = omega arith
   close_few k.Close v (f.IfTest p) fs out g = omega arith
   close_few k.Close v (f.WhileTest p) fs out g = omega arith
@@ -223,7 +223,7 @@ module _ (t : Token) (n : ℕ) where
   close_few k.CloseBrace v x fs out g = stop_few k.CloseBrace x fs out g
   close_few _ v _ fs out g = tt
 
-  shift_few : (y : Terminal) (s : Place) (v : Bool) (x : Frame) (fs : List Frame) (out : Nodes) → count_of x + counted fs + 2 ≤ n → AtMost n (shift_by t y s v x fs out)
+  shift_few : (y : Terminal) (s : Place) (v : Bool) (x : Level) (fs : List Level) (out : Nodes) → count_of x + counted fs + 2 ≤ n → AtMost n (shift_by t y s v x fs out)
   shift_few k.Dot s v x fs out g = omega arith
   shift_few k.OpenSquare s v x fs out g = omega arith
   shift_few k.Open s v x fs out g = omega arith
@@ -233,12 +233,12 @@ module _ (t : Token) (n : ℕ) where
   shift_few k.Question s v x fs out g = omega arith
   shift_few y s v x fs out g = close_few y v x fs out g
 
-  value_few : (y : Terminal) (s : Place) (v : Bool) (fs : List Frame) (out : Nodes) → counted fs + 2 ≤ n → AtMost n (value_by t y s v fs out)
+  value_few : (y : Terminal) (s : Place) (v : Bool) (fs : List Level) (out : Nodes) → counted fs + 2 ≤ n → AtMost n (value_by t y s v fs out)
   value_few y s v [] out g = tt
   value_few y s v (x ∷ fs) out g =
       either (reduces y v x) n _ _ (value_few y (start_of x) false fs _ (omega arith)) (if_any (nat_le (awaits_at x) (made_at y)) n _ (shift_few y s v x fs out g))
 
-  feed_few : (x : Focus) (fs : List Frame) (out : Nodes) → counted fs + 2 ≤ n → AtMost n (feed_by t x fs out)
+  feed_few : (x : Focus) (fs : List Level) (out : Nodes) → counted fs + 2 ≤ n → AtMost n (feed_by t x fs out)
   feed_few f.Statement fs out g = statement_few (terminal t) fs out (omega arith)
   feed_few f.Body fs out g = body_few (terminal t) fs out (omega arith)
   feed_few f.Operand fs out g = operand_few (terminal t) fs out (omega arith)
@@ -250,7 +250,7 @@ module _ (t : Token) (n : ℕ) where
 
 fed_few : (t : Token) (n : ℕ) (s : Next) → AtMost n s → AtMost (n + 2) (feed t s)
 fed_few t n None g = tt
-fed_few t n (Some c) g = feed_few t (n + 2) c.focus c.frames c.nodes (omega arith)
+fed_few t n (Some c) g = feed_few t (n + 2) c.focus c.levels c.nodes (omega arith)
 
 more : (n m : ℕ) (s : Next) → AtMost (n + 2 + (m + m)) s → AtMost (n + (suc m + suc m)) s
 more n m None g = tt

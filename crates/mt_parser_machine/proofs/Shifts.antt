@@ -8,13 +8,13 @@ use Rattle.mt_grammar.specs.declared.terminal.Terminal.{Terminal}
 use Rattle.mt_grammar.specs.declared.terminal.Terminal.TheVariants as k
 use Rattle.mt_grammar.specs.Token.{Token}
 use Rattle.mt_grammar.specs.Nodes.{Nodes}
-use Rattle.mt_grammar.specs.Stack.{Frame}
+use Rattle.mt_grammar.specs.Stack.{Level}
 use Rattle.mt_grammar.specs.Machine.{close_by, shift_by, stop_by}
-use Rattle.mt_parser_machine.specs.declared.frame.Frame.{Frame as CodeFrame}
-use Rattle.mt_parser_machine.specs.declared.frame.Frame.TheVariants as code_frame
-use Rattle.mt_parser_machine.specs.Views.{frame_of}
+use Rattle.mt_parser_machine.specs.declared.level.Level.{Level as CodeLevel}
+use Rattle.mt_parser_machine.specs.declared.level.Level.TheVariants as code_level
+use Rattle.mt_parser_machine.specs.Views.{level_of}
 
-pub only_closes : (t : Token) (y : Terminal) (s : Place) (v : Bool) (x : Frame) (fs : List Frame) (out : Nodes) → (y ≡ k.Open → ⊥) → (y ≡ k.OpenSquare → ⊥) → (y ≡ k.Dot → ⊥) → (y ≡ k.Question → ⊥)
+pub only_closes : (t : Token) (y : Terminal) (s : Place) (v : Bool) (x : Level) (fs : List Level) (out : Nodes) → (y ≡ k.Open → ⊥) → (y ≡ k.OpenSquare → ⊥) → (y ≡ k.Dot → ⊥) → (y ≡ k.Question → ⊥)
     → ((d : StepSign) → y ≡ k.Step d → ⊥) → ((o : Infix) → y ≡ k.Infix o → ⊥) → ((o : Option Binary) → y ≡ k.Assign o → ⊥) → shift_by t y s v x fs out ≡ close_by t y v x fs out
 only_closes t k.Open s v x fs out a b c d e g h = absurd (a refl)
 only_closes t k.OpenSquare s v x fs out a b c d e g h = absurd (b refl)
@@ -25,15 +25,15 @@ only_closes t (k.Infix i) s v x fs out a b c d e g h = absurd (g i refl)
 only_closes t (k.Assign i) s v x fs out a b c d e g h = absurd (h i refl)
 only_closes t _ s v x fs out a b c d e g h = refl
 
-pub comma_stops : (t : Token) (v : Bool) (x : CodeFrame) (fs : List Frame) (out : Nodes) → ((p : Place) (c : ℕ) → x ≡ code_frame.Arguments p c → ⊥) → ((p : Place) (c : ℕ) → x ≡ code_frame.Array p c → ⊥)
-    → ((p : Place) (c : ℕ) → x ≡ code_frame.ObjectValue p c → ⊥) → close_by t k.Comma v (frame_of x) fs out ≡ stop_by t k.Comma (frame_of x) fs out
-comma_stops t v (code_frame.Arguments p c) fs out a b d = absurd (a p c refl)
-comma_stops t v (code_frame.Array p c) fs out a b d = absurd (b p c refl)
-comma_stops t v (code_frame.ObjectValue p c) fs out a b d = absurd (d p c refl)
+pub comma_stops : (t : Token) (v : Bool) (x : CodeLevel) (fs : List Level) (out : Nodes) → ((p : Place) (c : ℕ) → x ≡ code_level.Arguments p c → ⊥) → ((p : Place) (c : ℕ) → x ≡ code_level.Array p c → ⊥)
+    → ((p : Place) (c : ℕ) → x ≡ code_level.ObjectValue p c → ⊥) → close_by t k.Comma v (level_of x) fs out ≡ stop_by t k.Comma (level_of x) fs out
+comma_stops t v (code_level.Arguments p c) fs out a b d = absurd (a p c refl)
+comma_stops t v (code_level.Array p c) fs out a b d = absurd (b p c refl)
+comma_stops t v (code_level.ObjectValue p c) fs out a b d = absurd (d p c refl)
 comma_stops t v _ fs out a b d = refl
 
-pub semicolon_stops : (t : Token) (v : Bool) (x : CodeFrame) (fs : List Frame) (out : Nodes) → ((p : Place) → x ≡ code_frame.ForStart p → ⊥) → ((p : Place) → x ≡ code_frame.ForTest p → ⊥)
-    → close_by t k.Semicolon v (frame_of x) fs out ≡ stop_by t k.Semicolon (frame_of x) fs out
-semicolon_stops t v (code_frame.ForStart p) fs out a b = absurd (a p refl)
-semicolon_stops t v (code_frame.ForTest p) fs out a b = absurd (b p refl)
+pub semicolon_stops : (t : Token) (v : Bool) (x : CodeLevel) (fs : List Level) (out : Nodes) → ((p : Place) → x ≡ code_level.ForStart p → ⊥) → ((p : Place) → x ≡ code_level.ForTest p → ⊥)
+    → close_by t k.Semicolon v (level_of x) fs out ≡ stop_by t k.Semicolon (level_of x) fs out
+semicolon_stops t v (code_level.ForStart p) fs out a b = absurd (a p refl)
+semicolon_stops t v (code_level.ForTest p) fs out a b = absurd (b p refl)
 semicolon_stops t v _ fs out a b = refl

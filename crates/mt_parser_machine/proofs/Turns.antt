@@ -7,7 +7,7 @@ use Rattle.mt_parser_marks.specs.declared.token.Token.{Token as CodeToken}
 use Rattle.mt_parser_marks.specs.Views.{token_of, tokens_of}
 use Rattle.mt_grammar.specs.Token.{Tokens}
 use Rattle.mt_grammar.specs.Nodes.{Nodes}
-use Rattle.mt_grammar.specs.Stack.{Frame, Focus}
+use Rattle.mt_grammar.specs.Stack.{Level, Focus}
 use Rattle.mt_grammar.specs.Machine.{Next, after, at, end_by, feed, feed_by, finish, parsed, run, start}
 use Rattle.mt_parser_machine.specs.Counts.{counted}
 use Rattle.mt_parser_machine.specs.Refused.{RefusedAt}
@@ -38,18 +38,18 @@ one_token ts i d s h e =
     ∙ ap (λ t. feed t s) (token_at ts i d)
 
 -- so few parts are counted behind that many tokens
-pub few_counted : (ts : Tokens) (i : ℕ) (x : Focus) (fs : List Frame) (out : Nodes) → after (take i ts) start ≡ at x fs out → counted fs ≤ i + i
+pub few_counted : (ts : Tokens) (i : ℕ) (x : Focus) (fs : List Level) (out : Nodes) → after (take i ts) start ≡ at x fs out → counted fs ≤ i + i
 few_counted ts i x fs out e =
     let all = length (take i ts) + length (take i ts) in
     let most : AtMost (0 + all) (at x fs out) = subst (AtMost (0 + all)) e (after_few (take i ts) 0 start (omega arith)) in
     omega (arith, length-take i ts)
 
-module _ (ts : List CodeToken) (i : ℕ) (x : Focus) (fs : List Frame) (out : Nodes) where
+module _ (ts : List CodeToken) (i : ℕ) (x : Focus) (fs : List Level) (out : Nodes) where
   pub goes_on : (d : CodeToken) (s : Next) → i < length ts → after (take i (tokens_of ts)) start ≡ at x fs out → feed_by (token_of (get_or ts i d)) x fs out ≡ s → after (take (i + 1) (tokens_of ts)) start ≡ s
   goes_on d s h e fed = one_token ts i d (at x fs out) h e ∙ fed
 
   pub refused_here : (d : CodeToken) → i < length ts → after (take i (tokens_of ts)) start ≡ at x fs out → feed_by (token_of (get_or ts i d)) x fs out ≡ None → RefusedAt (tokens_of ts) i
-  refused_here d h e none = (record { focus = x; frames = fs; nodes = out }, e, inl (rw (length-tokens_of ts) h, goes_on d None h e none))
+  refused_here d h e none = (record { focus = x; levels = fs; nodes = out }, e, inl (rw (length-tokens_of ts) h, goes_on d None h e none))
 
   pub ended : (r : Option Nodes) → length ts ≤ i → after (take i (tokens_of ts)) start ≡ at x fs out → end_by x fs out ≡ r → parsed (tokens_of ts) ≡ r
   ended r h e last =
@@ -60,4 +60,4 @@ module _ (ts : List CodeToken) (i : ℕ) (x : Focus) (fs : List Frame) (out : No
   refused_end h e none =
       let whole : take i (tokens_of ts) ≡ tokens_of ts = take_all i (tokens_of ts) (rw (length-tokens_of ts) h) in
       let exact : take (length ts) (tokens_of ts) ≡ tokens_of ts = take_all (length ts) (tokens_of ts) (omega (arith, length-tokens_of ts)) in
-      (record { focus = x; frames = fs; nodes = out }, ap (λ l. after l start) (exact ∙ sym whole) ∙ e, inr (sym (length-tokens_of ts), none))
+      (record { focus = x; levels = fs; nodes = out }, ap (λ l. after l start) (exact ∙ sym whole) ∙ e, inr (sym (length-tokens_of ts), none))

@@ -1,9 +1,9 @@
--- How many finished parts the open frames count.
+-- How many finished parts the open levels count.
 use Rattle.std.specs.Prelude.{ℕ, ◌+◌, List, [], ◌∷◌}
-use Rattle.mt_grammar.specs.Stack.{Frame}
+use Rattle.mt_grammar.specs.Stack.{Level}
 use Rattle.mt_grammar.specs.Stack as f
 
-abbrev pub count_of : Frame → ℕ
+abbrev pub count_of : Level → ℕ
 count_of (f.Program c) = c
 count_of (f.Block p c) = c
 count_of (f.FunctionBody h p m c) = m + c
@@ -24,6 +24,6 @@ count_of (f.AttributeValue m a) = a
 count_of (f.Children m a c) = a + c
 count_of _ = 0
 
-abbrev pub counted : List Frame → ℕ
+abbrev pub counted : List Level → ℕ
 counted [] = 0
 counted (x ∷ fs) = count_of x + counted fs

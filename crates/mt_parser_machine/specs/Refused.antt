@@ -14,7 +14,7 @@ use Rattle.mt_parser_machine.specs.declared.refusal.ReadRefusal.TheVariants.{At,
 abbrev pub RefusedAt : Tokens → ℕ → Type 0
 RefusedAt ts i =
     (c : Configuration) × (after (take i ts) start ≡ Some c)
-    × ((i < length ts) × (after (take (i + 1) ts) start ≡ None) ⊎ (i ≡ length ts) × (end_by c.focus c.frames c.nodes ≡ None))
+    × ((i < length ts) × (after (take (i + 1) ts) start ≡ None) ⊎ (i ≡ length ts) × (end_by c.focus c.levels c.nodes ≡ None))
 
 -- the tokens are no program: some program begins with those in front of that number, and none with one token more
 abbrev pub IsOffending : Tokens → ℕ → Type 0

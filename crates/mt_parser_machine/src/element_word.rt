@@ -4,13 +4,13 @@ ghost use Rattle.std.specs.Prelude.{◌≡◌, ◌+◌, ◌≤◌, true};
 ghost use Rattle.mt_grammar.specs.Machine as spec;
 ghost use Rattle.mt_grammar.specs.Stack as f;
 ghost use Rattle.mt_parser_marks.specs.Views.{mark_of, token_of};
-ghost use Rattle.mt_parser_machine.specs.Views.{frame_of};
+ghost use Rattle.mt_parser_machine.specs.Views.{level_of};
 ghost use Rattle.mt_parser_machine.specs.Steps.{Steps};
 ghost use Rattle.mt_parser_machine.specs.Counts.{count_of, counted};
 ghost use Rattle.mt_parser_machine.specs.Families.{is_element_word};
 
 use crate::focus::Focus;
-use crate::frame::Frame;
+use crate::level::Level;
 use crate::machine::{Machine, Step};
 use crate::tag::{closes, tag_mark};
 use mt_grammar::Terminal;
@@ -26,13 +26,13 @@ impl<'a> Machine<'a> {
         match token.terminal {
             Terminal::AttributeName => {
                 self.nodes.push(Node::AttributeName(token.mark))?;
-                self.open(Frame::Attributes(tag, count + 1, true), Focus::Word)
+                self.open(Level::Attributes(tag, count + 1, true), Focus::Word)
             }
             Terminal::Assign(None) => {
                 if !named {
                     return Ok(None);
                 }
-                self.open(Frame::AttributeValue(tag, count), Focus::Word)
+                self.open(Level::AttributeValue(tag, count), Focus::Word)
             }
             Terminal::TagSelfEnd => {
                 self.nodes.push(Node::Element(tag.place, count, 0))?;
@@ -43,7 +43,7 @@ impl<'a> Machine<'a> {
                     self.nodes.push(Node::Element(tag.place, count, 0))?;
                     return self.settle(tag.place);
                 }
-                self.open(Frame::Children(tag, count, 0), Focus::Word)
+                self.open(Level::Children(tag, count, 0), Focus::Word)
             }
             _ => Ok(None),
         }
@@ -56,19 +56,19 @@ impl<'a> Machine<'a> {
         match token.terminal {
             Terminal::Quoted => {
                 self.nodes.push(Node::AttributeQuoted(token.mark))?;
-                self.open(Frame::Attributes(tag, count, false), Focus::Word)
+                self.open(Level::Attributes(tag, count, false), Focus::Word)
             }
             Terminal::TildeOpen => {
                 self.open_in(
-                    Frame::AttributeValue(tag, count),
-                    Frame::Tilde(token.mark.place, 0),
+                    Level::AttributeValue(tag, count),
+                    Level::Tilde(token.mark.place, 0),
                     Focus::Statement,
                 )
             }
             Terminal::DollarOpen => {
                 self.open_in(
-                    Frame::AttributeValue(tag, count),
-                    Frame::Dollar(token.mark.place),
+                    Level::AttributeValue(tag, count),
+                    Level::Dollar(token.mark.place),
                     Focus::Operand,
                 )
             }
@@ -81,22 +81,22 @@ impl<'a> Machine<'a> {
         requires { attributes + count + counted self.old.stack ≤ 1000000 }
         ensures { Steps result (spec.word_by (token_of token.entry) (f.Children (mark_of tag.entry) attributes count) token.entry.terminal self.old.stack self.old.nodes) self.new }
     {
-        let parent = Frame::Children(tag, attributes, count);
+        let parent = Level::Children(tag, attributes, count);
         match token.terminal {
             Terminal::ChildText => {
                 self.nodes.push(Node::ChildText(token.mark))?;
-                self.open(Frame::Children(tag, attributes, count + 1), Focus::Word)
+                self.open(Level::Children(tag, attributes, count + 1), Focus::Word)
             }
             Terminal::TagOpen => {
                 let inner = tag_mark(token);
                 self.nodes.push(Node::Word(inner))?;
-                self.open_in(parent, Frame::Attributes(inner, 0, false), Focus::Word)
+                self.open_in(parent, Level::Attributes(inner, 0, false), Focus::Word)
             }
             Terminal::TildeOpen => {
-                self.open_in(parent, Frame::Tilde(token.mark.place, 0), Focus::Statement)
+                self.open_in(parent, Level::Tilde(token.mark.place, 0), Focus::Statement)
             }
             Terminal::DollarOpen => {
-                self.open_in(parent, Frame::Dollar(token.mark.place), Focus::Operand)
+                self.open_in(parent, Level::Dollar(token.mark.place), Focus::Operand)
             }
             Terminal::CloseTag => {
                 if !closes(token, tag) {
@@ -110,15 +110,15 @@ impl<'a> Machine<'a> {
         }
     }
 
-    /// A token that the frame of an element names.
-    pub fn element_word(&mut self, token: Token<'a>, top: Frame<'a>) -> Step
-        requires { count_of (frame_of top) + counted self.old.stack ≤ 1000000 }
-        ensures { is_element_word (frame_of top.entry) ≡ true → Steps result (spec.word_by (token_of token.entry) (frame_of top.entry) token.entry.terminal self.old.stack self.old.nodes) self.new }
+    /// A token that the level of an element names.
+    pub fn element_word(&mut self, token: Token<'a>, top: Level<'a>) -> Step
+        requires { count_of (level_of top) + counted self.old.stack ≤ 1000000 }
+        ensures { is_element_word (level_of top.entry) ≡ true → Steps result (spec.word_by (token_of token.entry) (level_of top.entry) token.entry.terminal self.old.stack self.old.nodes) self.new }
     {
         match top {
-            Frame::Attributes(tag, count, named) => self.attribute(token, tag, count, named),
-            Frame::AttributeValue(tag, count) => self.attribute_value(token, tag, count),
-            Frame::Children(tag, attributes, count) => self.child(token, tag, attributes, count),
+            Level::Attributes(tag, count, named) => self.attribute(token, tag, count, named),
+            Level::AttributeValue(tag, count) => self.attribute_value(token, tag, count),
+            Level::Children(tag, attributes, count) => self.child(token, tag, attributes, count),
             _ => Ok(None),
         }
     }

@@ -9,7 +9,7 @@ ghost use Rattle.mt_parser_machine.specs.Steps.{Ends, Steps};
 ghost use Rattle.mt_parser_machine.specs.Counts.{counted};
 
 use crate::focus::Focus;
-use crate::frame::Frame;
+use crate::level::Level;
 use crate::machine::{Machine, Step};
 use mt_parser_marks::{Node, Token};
 use std::alloc::AllocError;
@@ -38,13 +38,13 @@ impl<'a> Machine<'a> {
     {
         while let Some(top) = self.stack.pop() {
             match top {
-                Frame::Single(place) => self.nodes.push(Node::Block(place, 1))?,
-                Frame::IfThen(place) => self.nodes.push(Node::If(place))?,
-                Frame::IfElse(place) => self.nodes.push(Node::IfElse(place))?,
-                Frame::WhileBody(place) => self.nodes.push(Node::While(place))?,
-                Frame::ForBody(place) => self.nodes.push(Node::For(place))?,
-                Frame::CatchBlock(place) => self.nodes.push(Node::Try(place))?,
-                Frame::Program(_) => return Ok(true),
+                Level::Single(place) => self.nodes.push(Node::Block(place, 1))?,
+                Level::IfThen(place) => self.nodes.push(Node::If(place))?,
+                Level::IfElse(place) => self.nodes.push(Node::IfElse(place))?,
+                Level::WhileBody(place) => self.nodes.push(Node::While(place))?,
+                Level::ForBody(place) => self.nodes.push(Node::For(place))?,
+                Level::CatchBlock(place) => self.nodes.push(Node::Try(place))?,
+                Level::Program(_) => return Ok(true),
                 _ => return Ok(false),
             }
         }
@@ -56,7 +56,7 @@ impl<'a> Machine<'a> {
         ensures { IfOk result (λ ends. Ends ends (spec.end_by (focus_of focus) self.old.stack self.old.nodes) self.new.nodes) }
     {
         match focus {
-            Focus::Statement => Ok(matches!(self.stack.pop(), Some(Frame::Program(_)))),
+            Focus::Statement => Ok(matches!(self.stack.pop(), Some(Level::Program(_)))),
             Focus::Finished => self.end_finished(),
             _ => Ok(false),
         }

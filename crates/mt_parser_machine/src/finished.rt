@@ -3,36 +3,36 @@
 ghost use Rattle.std.specs.Prelude.{◌+◌, ◌≤◌};
 ghost use Rattle.mt_grammar.specs.Machine as spec;
 ghost use Rattle.mt_parser_marks.specs.Views.{token_of};
-ghost use Rattle.mt_parser_machine.specs.Views.{frame_of};
+ghost use Rattle.mt_parser_machine.specs.Views.{level_of};
 ghost use Rattle.mt_parser_machine.specs.Steps.{Steps};
 ghost use Rattle.mt_parser_machine.specs.Counts.{count_of, counted};
 
 use crate::focus::Focus;
-use crate::frame::Frame;
+use crate::level::Level;
 use crate::machine::{Machine, Step};
 use mt_grammar::{Declaration, Terminal};
 use mt_parser_marks::{Node, Token};
 use mt_tree::{Place, VarKind};
 
 impl<'a> Machine<'a> {
-    // A frame that a statement doesn't finish, back on the stack.
-    fn hold(&mut self, token: Token<'a>, top: Frame<'a>) -> Step
-        requires { count_of (frame_of top) + counted self.old.stack ≤ 1000000 }
-        ensures { Steps result (spec.hold_by (token_of token.entry) token.entry.terminal (frame_of top.entry) self.old.stack self.old.nodes) self.new }
+    // A level that a statement doesn't finish, back on the stack.
+    fn hold(&mut self, token: Token<'a>, top: Level<'a>) -> Step
+        requires { count_of (level_of top) + counted self.old.stack ≤ 1000000 }
+        ensures { Steps result (spec.hold_by (token_of token.entry) token.entry.terminal (level_of top.entry) self.old.stack self.old.nodes) self.new }
     {
         match top {
-            Frame::Program(count) => self.stack.push(Frame::Program(count + 1))?,
-            Frame::Block(place, count) => self.stack.push(Frame::Block(place, count + 1))?,
-            Frame::FunctionBody(heading, place, parameters, count) => {
+            Level::Program(count) => self.stack.push(Level::Program(count + 1))?,
+            Level::Block(place, count) => self.stack.push(Level::Block(place, count + 1))?,
+            Level::FunctionBody(heading, place, parameters, count) => {
                 self.stack
-                    .push(Frame::FunctionBody(heading, place, parameters, count + 1))?;
+                    .push(Level::FunctionBody(heading, place, parameters, count + 1))?;
             }
-            Frame::Tilde(place, count) => self.stack.push(Frame::Tilde(place, count + 1))?,
-            Frame::TryBlock(place) => {
+            Level::Tilde(place, count) => self.stack.push(Level::Tilde(place, count + 1))?,
+            Level::TryBlock(place) => {
                 if !matches!(token.terminal, Terminal::Catch) {
                     return Ok(None);
                 }
-                return self.open(Frame::CatchOpen(place), Focus::Word);
+                return self.open(Level::CatchOpen(place), Focus::Word);
             }
             _ => return Ok(None),
         }
@@ -46,17 +46,17 @@ impl<'a> Machine<'a> {
     {
         while let Some(top) = self.stack.pop() {
             match top {
-                Frame::Single(place) => self.nodes.push(Node::Block(place, 1))?,
-                Frame::IfThen(place) => {
+                Level::Single(place) => self.nodes.push(Node::Block(place, 1))?,
+                Level::IfThen(place) => {
                     if matches!(token.terminal, Terminal::Else) {
-                        return self.open(Frame::IfElse(place), Focus::Body);
+                        return self.open(Level::IfElse(place), Focus::Body);
                     }
                     self.nodes.push(Node::If(place))?;
                 }
-                Frame::IfElse(place) => self.nodes.push(Node::IfElse(place))?,
-                Frame::WhileBody(place) => self.nodes.push(Node::While(place))?,
-                Frame::ForBody(place) => self.nodes.push(Node::For(place))?,
-                Frame::CatchBlock(place) => self.nodes.push(Node::Try(place))?,
+                Level::IfElse(place) => self.nodes.push(Node::IfElse(place))?,
+                Level::WhileBody(place) => self.nodes.push(Node::While(place))?,
+                Level::ForBody(place) => self.nodes.push(Node::For(place))?,
+                Level::CatchBlock(place) => self.nodes.push(Node::Try(place))?,
                 other => return self.hold(token, other),
             }
         }
@@ -87,7 +87,7 @@ impl<'a> Machine<'a> {
         ensures { Steps result (spec.declared_by (token_of token.entry) token.entry.terminal declaration place count self.old.stack self.old.nodes) self.new }
     {
         match token.terminal {
-            Terminal::Comma => self.open(Frame::DeclName(declaration, place, count), Focus::Word),
+            Terminal::Comma => self.open(Level::DeclName(declaration, place, count), Focus::Word),
             Terminal::Semicolon => match declaration {
                 Declaration::Statement(kind) => {
                     self.nodes.push(Node::Var(place, kind, count))?;
@@ -95,7 +95,7 @@ impl<'a> Machine<'a> {
                 }
                 Declaration::ForStart => {
                     self.nodes.push(Node::StartVars(count))?;
-                    self.open(Frame::ForTest(place), Focus::First)
+                    self.open(Level::ForTest(place), Focus::First)
                 }
             },
             _ => match declaration {
@@ -115,9 +115,9 @@ impl<'a> Machine<'a> {
     {
         match token.terminal {
             Terminal::Declare(VarKind::Let | VarKind::Const) => Ok(None),
-            Terminal::OpenBrace => self.open(Frame::Block(token.mark.place, 0), Focus::Statement),
+            Terminal::OpenBrace => self.open(Level::Block(token.mark.place, 0), Focus::Statement),
             _ => {
-                self.stack.push(Frame::Single(token.mark.place))?;
+                self.stack.push(Level::Single(token.mark.place))?;
                 self.statement(token)
             }
         }

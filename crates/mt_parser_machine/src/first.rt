@@ -3,71 +3,71 @@
 ghost use Rattle.std.specs.Prelude.{◌≡◌, ◌∷◌, ◌+◌, ◌≤◌, true};
 ghost use Rattle.mt_grammar.specs.Machine as spec;
 ghost use Rattle.mt_parser_marks.specs.Views.{token_of};
-ghost use Rattle.mt_parser_machine.specs.Views.{frame_of};
+ghost use Rattle.mt_parser_machine.specs.Views.{level_of};
 ghost use Rattle.mt_parser_machine.specs.Steps.{Steps};
 ghost use Rattle.mt_parser_machine.specs.Counts.{count_of, counted};
 ghost use Rattle.mt_parser_machine.specs.Families as families;
 
 use crate::focus::Focus;
-use crate::frame::Frame;
+use crate::level::Level;
 use crate::machine::{Machine, Step};
 use mt_grammar::{Declaration, Terminal};
 use mt_parser_marks::{Node, Token};
 use mt_tree::VarKind;
 
-// The frame ends at the terminal without an expression, or goes on without one.
-fn needs_none<'a>(terminal: Terminal, top: Frame<'a>) -> bool
-    ensures { result ≡ families.needs_none terminal (frame_of top.entry) }
+// The level ends at the terminal without an expression, or goes on without one.
+fn needs_none<'a>(terminal: Terminal, top: Level<'a>) -> bool
+    ensures { result ≡ families.needs_none terminal (level_of top.entry) }
 {
     match terminal {
-        Terminal::Close => matches!(top, Frame::Arguments(..) | Frame::ForStep(_)),
-        Terminal::CloseSquare => matches!(top, Frame::Array(..)),
-        Terminal::Declare(_) => matches!(top, Frame::ForStart(_)),
+        Terminal::Close => matches!(top, Level::Arguments(..) | Level::ForStep(_)),
+        Terminal::CloseSquare => matches!(top, Level::Array(..)),
+        Terminal::Declare(_) => matches!(top, Level::ForStart(_)),
         Terminal::Semicolon => {
             matches!(
                 top,
-                Frame::ForStart(_) | Frame::ForTest(_) | Frame::Return(_)
+                Level::ForStart(_) | Level::ForTest(_) | Level::Return(_)
             )
         }
-        Terminal::CloseBrace => matches!(top, Frame::Return(_)),
+        Terminal::CloseBrace => matches!(top, Level::Return(_)),
         _ => false,
     }
 }
 
 impl<'a> Machine<'a> {
-    // The token that the frame needs no expression for.
-    fn absent(&mut self, token: Token<'a>, top: Frame<'a>) -> Step
-        requires { count_of (frame_of top) + counted self.old.stack ≤ 1000000 }
-        ensures { families.needs_none token.entry.terminal (frame_of top.entry) ≡ true → Steps result (spec.first_by (token_of token.entry) token.entry.terminal (frame_of top.entry ∷ self.old.stack) self.old.nodes) self.new }
+    // The token that the level needs no expression for.
+    fn absent(&mut self, token: Token<'a>, top: Level<'a>) -> Step
+        requires { count_of (level_of top) + counted self.old.stack ≤ 1000000 }
+        ensures { families.needs_none token.entry.terminal (level_of top.entry) ≡ true → Steps result (spec.first_by (token_of token.entry) token.entry.terminal (level_of top.entry ∷ self.old.stack) self.old.nodes) self.new }
     {
         match (top, token.terminal) {
-            (Frame::Arguments(start, count), _) => {
+            (Level::Arguments(start, count), _) => {
                 self.finish(Node::Call(start, count), Focus::Value(start, false))
             }
-            (Frame::Array(place, count), _) => {
+            (Level::Array(place, count), _) => {
                 self.finish(Node::Array(place, count), Focus::Value(place, false))
             }
-            (Frame::ForStart(place), Terminal::Declare(VarKind::Var)) => {
+            (Level::ForStart(place), Terminal::Declare(VarKind::Var)) => {
                 self.open(
-                    Frame::DeclName(Declaration::ForStart, place, 0),
+                    Level::DeclName(Declaration::ForStart, place, 0),
                     Focus::Word,
                 )
             }
-            (Frame::ForStart(_), Terminal::Declare(_)) => Ok(None),
-            (Frame::ForStart(place), _) => {
+            (Level::ForStart(_), Terminal::Declare(_)) => Ok(None),
+            (Level::ForStart(place), _) => {
                 self.nodes.push(Node::Absent)?;
                 self.nodes.push(Node::StartOptional)?;
-                self.open(Frame::ForTest(place), Focus::First)
+                self.open(Level::ForTest(place), Focus::First)
             }
-            (Frame::ForTest(place), _) => {
+            (Level::ForTest(place), _) => {
                 self.nodes.push(Node::Absent)?;
-                self.open(Frame::ForStep(place), Focus::First)
+                self.open(Level::ForStep(place), Focus::First)
             }
-            (Frame::ForStep(place), _) => {
+            (Level::ForStep(place), _) => {
                 self.nodes.push(Node::Absent)?;
-                self.open(Frame::ForBody(place), Focus::Body)
+                self.open(Level::ForBody(place), Focus::Body)
             }
-            (Frame::Return(place), _) => {
+            (Level::Return(place), _) => {
                 self.nodes.push(Node::Absent)?;
                 self.nodes.push(Node::Return(place))?;
                 self.ended(token)

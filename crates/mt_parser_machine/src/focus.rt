@@ -9,9 +9,9 @@ pub enum Focus {
     Body,
     // An expression.
     Operand,
-    // An expression, or the token that ends the topmost frame without one.
+    // An expression, or the token that ends the topmost level without one.
     First,
-    // A token that the topmost frame names.
+    // A token that the topmost level names.
     Word,
     // What follows an expression that began there; the flag says whether it can be assigned to.
     Value(Place, bool),

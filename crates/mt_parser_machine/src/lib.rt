@@ -1,6 +1,6 @@
 //! The machine that reads the tokens of a program.
 //!
-//! It reads each token once, and keeps what is open on a stack of frames. What it finishes it
+//! It reads each token once, and keeps what is open on a stack of levels. What it finishes it
 //! writes as nodes, each behind those in it. [`read`] gives the nodes of the one tree that the
 //! grammar derives from the tokens, or the number of the first token that no program goes on with:
 //! these are the laws of the grammar's own machine, which this one follows step by step. No
@@ -15,9 +15,9 @@ mod feed;
 mod finished;
 mod first;
 mod focus;
-mod frame;
 mod function_word;
 mod laws;
+mod level;
 mod machine;
 mod object_word;
 mod operand;

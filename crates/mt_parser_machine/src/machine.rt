@@ -1,5 +1,5 @@
 use crate::focus::Focus;
-use crate::frame::Frame;
+use crate::level::Level;
 use crate::output::Output;
 use crate::stack::Stack;
 use mt_parser_marks::{Node, Token};
@@ -10,7 +10,7 @@ pub type Step = Result<Option<Focus>, AllocError>;
 
 /// What is open, and the nodes that are finished.
 ///
-/// Each token adds at most two to what the open frames count, so that with 200,000 tokens no count is above 1,000,000:
+/// Each token adds at most two to what the open levels count, so that with 200,000 tokens no count is above 1,000,000:
 /// the methods ask for that, and none overflows.
 #[derive(Drop)]
 pub struct Machine<'a> {
@@ -27,31 +27,31 @@ impl<'a> Machine<'a> {
     ghost use Rattle.mt_parser_marks.specs.Views.{token_of};
     ghost use Rattle.mt_parser_marks.specs.NodeViews.{node_of};
     ghost use Rattle.mt_parser_machine.specs.Steps.{Steps};
-    ghost use Rattle.mt_parser_machine.specs.Views.{focus_of, frame_of};
+    ghost use Rattle.mt_parser_machine.specs.Views.{focus_of, level_of};
 
     /// In front of the first token.
     pub fn new(alloc: Global) -> Result<Machine<'a>, AllocError>
         ensures { IfOk result (λ m. m ≡ record { stack = f.Program 0 ∷ []; nodes = [] }) }
     {
         let mut stack = Stack::new(alloc);
-        stack.push(Frame::Program(0))?;
+        stack.push(Level::Program(0))?;
         Ok(Machine {
             stack,
             nodes: Output::new(alloc),
         })
     }
 
-    /// A frame more, and what is read in it.
-    pub fn open(&mut self, frame: Frame<'a>, focus: Focus) -> Step
-        ensures { Steps result (at (focus_of focus) (frame_of frame.entry ∷ self.old.stack) self.old.nodes) self.new }
+    /// A level more, and what is read in it.
+    pub fn open(&mut self, level: Level<'a>, focus: Focus) -> Step
+        ensures { Steps result (at (focus_of focus) (level_of level.entry ∷ self.old.stack) self.old.nodes) self.new }
     {
-        self.stack.push(frame)?;
+        self.stack.push(level)?;
         Ok(Some(focus))
     }
 
-    /// A frame and another in it, and what is read there.
-    pub fn open_in(&mut self, outer: Frame<'a>, inner: Frame<'a>, focus: Focus) -> Step
-        ensures { Steps result (at (focus_of focus) (frame_of inner.entry ∷ frame_of outer.entry ∷ self.old.stack) self.old.nodes) self.new }
+    /// A level and another in it, and what is read there.
+    pub fn open_in(&mut self, outer: Level<'a>, inner: Level<'a>, focus: Focus) -> Step
+        ensures { Steps result (at (focus_of focus) (level_of inner.entry ∷ level_of outer.entry ∷ self.old.stack) self.old.nodes) self.new }
     {
         self.stack.push(outer)?;
         self.open(inner, focus)
@@ -65,11 +65,11 @@ impl<'a> Machine<'a> {
         Ok(Some(focus))
     }
 
-    /// A name, and behind it a frame that names its next token.
-    pub fn open_named(&mut self, token: Token<'a>, frame: Frame<'a>) -> Step
-        ensures { Steps result (at f.Word (frame_of frame.entry ∷ self.old.stack) (self.old.nodes ++ n.Word (mark (token_of token.entry)) ∷ [])) self.new }
+    /// A name, and behind it a level that names its next token.
+    pub fn open_named(&mut self, token: Token<'a>, level: Level<'a>) -> Step
+        ensures { Steps result (at f.Word (level_of level.entry ∷ self.old.stack) (self.old.nodes ++ n.Word (mark (token_of token.entry)) ∷ [])) self.new }
     {
         self.nodes.push(Node::Word(token.mark))?;
-        self.open(frame, Focus::Word)
+        self.open(level, Focus::Word)
     }
 }

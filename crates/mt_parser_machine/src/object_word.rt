@@ -5,12 +5,12 @@ ghost use Rattle.mt_grammar.specs.Machine as spec;
 ghost use Rattle.mt_grammar.specs.Token as grammar_token;
 ghost use Rattle.mt_grammar.specs.Stack as f;
 ghost use Rattle.mt_parser_marks.specs.Views.{token_of};
-ghost use Rattle.mt_parser_machine.specs.Views.{frame_of};
+ghost use Rattle.mt_parser_machine.specs.Views.{level_of};
 ghost use Rattle.mt_parser_machine.specs.Steps.{Steps};
 ghost use Rattle.mt_parser_machine.specs.Families.{is_object_word};
 
 use crate::focus::Focus;
-use crate::frame::Frame;
+use crate::level::Level;
 use crate::machine::{Machine, Step};
 use mt_grammar::Terminal;
 use mt_parser_marks::{Node, Token};
@@ -58,27 +58,27 @@ impl<'a> Machine<'a> {
                 self.nodes.push(Node::Word(token.mark))?;
             }
         }
-        self.open(Frame::ObjectColon(place, count), Focus::Word)
+        self.open(Level::ObjectColon(place, count), Focus::Word)
     }
 
-    /// A token that the frame of an object or of a dot names.
-    pub fn object_word(&mut self, token: Token<'a>, top: Frame<'a>) -> Step
-        ensures { is_object_word (frame_of top.entry) ≡ true → Steps result (spec.word_by (token_of token.entry) (frame_of top.entry) token.entry.terminal self.old.stack self.old.nodes) self.new }
+    /// A token that the level of an object or of a dot names.
+    pub fn object_word(&mut self, token: Token<'a>, top: Level<'a>) -> Step
+        ensures { is_object_word (level_of top.entry) ≡ true → Steps result (spec.word_by (token_of token.entry) (level_of top.entry) token.entry.terminal self.old.stack self.old.nodes) self.new }
     {
         match top {
-            Frame::Dot(start) => {
+            Level::Dot(start) => {
                 if !is_word(token.terminal) {
                     return Ok(None);
                 }
                 self.nodes.push(Node::Property(token.mark))?;
                 self.finish(Node::Index(start), Focus::Value(start, true))
             }
-            Frame::ObjectKey(place, count) => self.key(token, place, count),
-            Frame::ObjectColon(place, count) => {
+            Level::ObjectKey(place, count) => self.key(token, place, count),
+            Level::ObjectColon(place, count) => {
                 if !matches!(token.terminal, Terminal::Colon) {
                     return Ok(None);
                 }
-                self.open(Frame::ObjectValue(place, count), Focus::Operand)
+                self.open(Level::ObjectValue(place, count), Focus::Operand)
             }
             _ => Ok(None),
         }

@@ -6,11 +6,11 @@ ghost use Rattle.mt_grammar.specs.Grammar as grammar;
 ghost use Rattle.mt_grammar.specs.Nodes as n;
 ghost use Rattle.mt_grammar.specs.Stack as f;
 ghost use Rattle.mt_parser_marks.specs.Views.{token_of};
-ghost use Rattle.mt_parser_machine.specs.Views.{frame_of};
+ghost use Rattle.mt_parser_machine.specs.Views.{level_of};
 ghost use Rattle.mt_parser_machine.specs.Steps.{Steps};
 
 use crate::focus::Focus;
-use crate::frame::Frame;
+use crate::level::Level;
 use crate::machine::{Machine, Step};
 use crate::precedence::awaits_at;
 use crate::tag::tag_mark;
@@ -29,17 +29,17 @@ fn step_before(step: StepSign) -> StepKind
 
 impl<'a> Machine<'a> {
     // An operator before its operand.
-    fn prefix(&mut self, frame: Frame<'a>) -> Step
-        ensures { Steps result (cond (nat_le (spec.awaits self.old.stack) 8) (spec.at f.Operand (frame_of frame.entry ∷ self.old.stack) self.old.nodes) None) self.new }
+    fn prefix(&mut self, level: Level<'a>) -> Step
+        ensures { Steps result (cond (nat_le (spec.awaits self.old.stack) 8) (spec.at f.Operand (level_of level.entry ∷ self.old.stack) self.old.nodes) None) self.new }
     {
         match self.stack.pop() {
             Some(top) => {
                 if awaits_at(top) > 8 {
                     return Ok(None);
                 }
-                self.open_in(top, frame, Focus::Operand)
+                self.open_in(top, level, Focus::Operand)
             }
-            None => self.open(frame, Focus::Operand),
+            None => self.open(level, Focus::Operand),
         }
     }
 
@@ -49,7 +49,7 @@ impl<'a> Machine<'a> {
     {
         let tag = tag_mark(token);
         self.nodes.push(Node::Word(tag))?;
-        self.open(Frame::Attributes(tag, 0, false), Focus::Word)
+        self.open(Level::Attributes(tag, 0, false), Focus::Word)
     }
 
     /// The first token of an expression.
@@ -64,21 +64,21 @@ impl<'a> Machine<'a> {
             Terminal::Constant(value) => {
                 self.finish(Node::Constant(place, value), Focus::Value(place, false))
             }
-            Terminal::Open => self.open(Frame::Paren(place), Focus::Operand),
-            Terminal::OpenSquare => self.open(Frame::Array(place, 0), Focus::First),
-            Terminal::OpenBrace => self.open(Frame::ObjectKey(place, 0), Focus::Word),
-            Terminal::Function => self.open(Frame::FunctionStart(place), Focus::Word),
-            Terminal::Exclamation => self.prefix(Frame::Unary(Unary::Not, place)),
-            Terminal::Typeof => self.prefix(Frame::Unary(Unary::Typeof, place)),
+            Terminal::Open => self.open(Level::Paren(place), Focus::Operand),
+            Terminal::OpenSquare => self.open(Level::Array(place, 0), Focus::First),
+            Terminal::OpenBrace => self.open(Level::ObjectKey(place, 0), Focus::Word),
+            Terminal::Function => self.open(Level::FunctionStart(place), Focus::Word),
+            Terminal::Exclamation => self.prefix(Level::Unary(Unary::Not, place)),
+            Terminal::Typeof => self.prefix(Level::Unary(Unary::Typeof, place)),
             Terminal::Infix(Infix::Binary(Binary::Add)) => {
-                self.prefix(Frame::Unary(Unary::Plus, place))
+                self.prefix(Level::Unary(Unary::Plus, place))
             }
             Terminal::Infix(Infix::Binary(Binary::Sub)) => {
-                self.prefix(Frame::Unary(Unary::Minus, place))
+                self.prefix(Level::Unary(Unary::Minus, place))
             }
-            Terminal::Step(step) => { self.prefix(Frame::StepBefore(step_before(step), place)) }
-            Terminal::TildeOpen => self.open(Frame::Tilde(place, 0), Focus::Statement),
-            Terminal::DollarOpen => self.open(Frame::Dollar(place), Focus::Operand),
+            Terminal::Step(step) => { self.prefix(Level::StepBefore(step_before(step), place)) }
+            Terminal::TildeOpen => self.open(Level::Tilde(place, 0), Focus::Statement),
+            Terminal::DollarOpen => self.open(Level::Dollar(place), Focus::Operand),
             Terminal::TagOpen => self.open_tag(token),
             _ => Ok(None),
         }

@@ -4,9 +4,9 @@ ghost use Rattle.std.specs.Prelude.{◌≡◌, ◌+◌};
 ghost use Rattle.mt_grammar.specs.Machine as spec;
 ghost use Rattle.mt_grammar.specs.Grammar as grammar;
 ghost use Rattle.mt_parser_marks.specs.NodeViews.{node_of};
-ghost use Rattle.mt_parser_machine.specs.Views.{frame_of};
+ghost use Rattle.mt_parser_machine.specs.Views.{level_of};
 
-use crate::frame::Frame;
+use crate::level::Level;
 use mt_grammar::{Infix, Terminal};
 use mt_parser_marks::Node;
 use mt_tree::{Binary, Place};
@@ -25,15 +25,15 @@ fn precedence_of(operator: Infix) -> u8
     }
 }
 
-/// The precedence of the expressions that are read above the frame.
-pub fn awaits_at<'a>(frame: Frame<'a>) -> u8
-    ensures { result ≡ spec.awaits_at (frame_of frame.entry) }
+/// The precedence of the expressions that are read above the level.
+pub fn awaits_at<'a>(level: Level<'a>) -> u8
+    ensures { result ≡ spec.awaits_at (level_of level.entry) }
 {
-    match frame {
-        Frame::Operation(operator, _) => precedence_of(operator) + 1,
-        Frame::Unary(..) => 8,
-        Frame::StepBefore(..) => 10,
-        Frame::StepAfter(..) | Frame::AttributeValue(..) | Frame::Children(..) => 11,
+    match level {
+        Level::Operation(operator, _) => precedence_of(operator) + 1,
+        Level::Unary(..) => 8,
+        Level::StepBefore(..) => 10,
+        Level::StepAfter(..) | Level::AttributeValue(..) | Level::Children(..) => 11,
         _ => 0,
     }
 }
@@ -67,46 +67,46 @@ pub fn made_at(terminal: Terminal) -> u8
     }
 }
 
-/// Whether the frame is an operator whose last operand ends before the terminal.
-pub fn reduces<'a>(terminal: Terminal, target: bool, frame: Frame<'a>) -> bool
-    ensures { result ≡ spec.reduces terminal target (frame_of frame.entry) }
+/// Whether the level is an operator whose last operand ends before the terminal.
+pub fn reduces<'a>(terminal: Terminal, target: bool, level: Level<'a>) -> bool
+    ensures { result ≡ spec.reduces terminal target (level_of level.entry) }
 {
-    match frame {
-        Frame::Operation(operator, _) => binding(terminal) <= precedence_of(operator),
-        Frame::Unary(..) => binding(terminal) <= 8,
-        Frame::StepBefore(..) => target && binding(terminal) <= 9,
-        Frame::StepAfter(..) => binding(terminal) <= 9,
-        Frame::Assign(..) | Frame::CondElse(_) => binding(terminal) == 0,
+    match level {
+        Level::Operation(operator, _) => binding(terminal) <= precedence_of(operator),
+        Level::Unary(..) => binding(terminal) <= 8,
+        Level::StepBefore(..) => target && binding(terminal) <= 9,
+        Level::StepAfter(..) => binding(terminal) <= 9,
+        Level::Assign(..) | Level::CondElse(_) => binding(terminal) == 0,
         _ => false,
     }
 }
 
 /// Where the operator began.
-pub fn start_of<'a>(frame: Frame<'a>) -> Place
-    ensures { result ≡ spec.start_of (frame_of frame.entry) }
+pub fn start_of<'a>(level: Level<'a>) -> Place
+    ensures { result ≡ spec.start_of (level_of level.entry) }
 {
-    match frame {
-        Frame::Operation(_, start)
-        | Frame::Unary(_, start)
-        | Frame::StepBefore(_, start)
-        | Frame::StepAfter(_, start)
-        | Frame::Assign(_, start)
-        | Frame::CondElse(start) => start,
+    match level {
+        Level::Operation(_, start)
+        | Level::Unary(_, start)
+        | Level::StepBefore(_, start)
+        | Level::StepAfter(_, start)
+        | Level::Assign(_, start)
+        | Level::CondElse(start) => start,
         _ => Place { line: 0, column: 0 },
     }
 }
 
 /// The node that the operator makes.
-pub fn operator_node<'a>(frame: Frame<'a>) -> Node<'a>
-    ensures { node_of result ≡ spec.node_of (frame_of frame.entry) }
+pub fn operator_node<'a>(level: Level<'a>) -> Node<'a>
+    ensures { node_of result ≡ spec.node_of (level_of level.entry) }
 {
-    match frame {
-        Frame::Operation(operator, start) => Node::Operation(start, operator),
-        Frame::Unary(operator, place) => Node::Unary(place, operator),
-        Frame::StepBefore(step, place) => Node::Step(place, step),
-        Frame::StepAfter(step, start) => Node::Step(start, step),
-        Frame::Assign(operator, start) => Node::Assign(start, operator),
-        Frame::CondElse(start) => Node::Condition(start),
+    match level {
+        Level::Operation(operator, start) => Node::Operation(start, operator),
+        Level::Unary(operator, place) => Node::Unary(place, operator),
+        Level::StepBefore(step, place) => Node::Step(place, step),
+        Level::StepAfter(step, start) => Node::Step(start, step),
+        Level::Assign(operator, start) => Node::Assign(start, operator),
+        Level::CondElse(start) => Node::Condition(start),
         _ => Node::Absent,
     }
 }

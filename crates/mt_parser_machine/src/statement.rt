@@ -7,7 +7,7 @@ ghost use Rattle.mt_parser_machine.specs.Steps.{Steps};
 ghost use Rattle.mt_parser_machine.specs.Counts.{counted};
 
 use crate::focus::Focus;
-use crate::frame::Frame;
+use crate::level::Level;
 use crate::machine::{Machine, Step};
 use mt_grammar::{Declaration, Heading, Terminal};
 use mt_parser_marks::{Node, Token};
@@ -20,14 +20,14 @@ impl<'a> Machine<'a> {
         ensures { Steps result (spec.settled place self.old.stack self.old.nodes) self.new }
     {
         match self.stack.pop() {
-            Some(Frame::AttributeValue(tag, count)) => {
+            Some(Level::AttributeValue(tag, count)) => {
                 self.nodes.push(Node::AttributeTilde)?;
-                self.open(Frame::Attributes(tag, count, false), Focus::Word)
+                self.open(Level::Attributes(tag, count, false), Focus::Word)
             }
-            Some(Frame::Children(tag, attributes, count)) => {
+            Some(Level::Children(tag, attributes, count)) => {
                 let count = count + 1;
                 self.nodes.push(Node::ChildDirect)?;
-                self.open(Frame::Children(tag, attributes, count), Focus::Word)
+                self.open(Level::Children(tag, attributes, count), Focus::Word)
             }
             Some(top) => self.open(top, Focus::Value(place, false)),
             None => Ok(Some(Focus::Value(place, false))),
@@ -66,13 +66,13 @@ impl<'a> Machine<'a> {
         ensures { Steps result (spec.close_brace self.old.stack self.old.nodes) self.new }
     {
         match self.stack.pop() {
-            Some(Frame::Block(place, count)) => {
+            Some(Level::Block(place, count)) => {
                 self.finish(Node::Block(place, count), Focus::Finished)
             }
-            Some(Frame::FunctionBody(heading, place, parameters, count)) => {
+            Some(Level::FunctionBody(heading, place, parameters, count)) => {
                 self.close_function(heading, place, parameters, count)
             }
-            Some(Frame::Tilde(place, count)) => {
+            Some(Level::Tilde(place, count)) => {
                 self.nodes.push(Node::Tilde(place, count))?;
                 self.settle(place)
             }
@@ -88,13 +88,13 @@ impl<'a> Machine<'a> {
             Some(top) => {
                 if !matches!(
                     top,
-                    Frame::Program(_) | Frame::FunctionBody(..) | Frame::Tilde(..)
+                    Level::Program(_) | Level::FunctionBody(..) | Level::Tilde(..)
                 ) {
                     return Ok(None);
                 }
                 self.open_in(
                     top,
-                    Frame::FunctionName(heading, token.mark.place),
+                    Level::FunctionName(heading, token.mark.place),
                     Focus::Word,
                 )
             }
@@ -111,24 +111,24 @@ impl<'a> Machine<'a> {
         match token.terminal {
             Terminal::Declare(kind) => {
                 self.open(
-                    Frame::DeclName(Declaration::Statement(kind), place, 0),
+                    Level::DeclName(Declaration::Statement(kind), place, 0),
                     Focus::Word,
                 )
             }
-            Terminal::If => self.open(Frame::IfOpen(place), Focus::Word),
-            Terminal::While => self.open(Frame::WhileOpen(place), Focus::Word),
-            Terminal::For => self.open(Frame::ForOpen(place), Focus::Word),
-            Terminal::Return => self.open(Frame::Return(place), Focus::First),
-            Terminal::Jump(jump) => self.open(Frame::Jump(place, jump), Focus::Word),
-            Terminal::Throw => self.open(Frame::Throw(place), Focus::Operand),
-            Terminal::Try => self.open(Frame::TryOpen(place), Focus::Word),
-            Terminal::OpenBrace => self.open(Frame::Block(place, 0), Focus::Statement),
+            Terminal::If => self.open(Level::IfOpen(place), Focus::Word),
+            Terminal::While => self.open(Level::WhileOpen(place), Focus::Word),
+            Terminal::For => self.open(Level::ForOpen(place), Focus::Word),
+            Terminal::Return => self.open(Level::Return(place), Focus::First),
+            Terminal::Jump(jump) => self.open(Level::Jump(place, jump), Focus::Word),
+            Terminal::Throw => self.open(Level::Throw(place), Focus::Operand),
+            Terminal::Try => self.open(Level::TryOpen(place), Focus::Word),
+            Terminal::OpenBrace => self.open(Level::Block(place, 0), Focus::Statement),
             Terminal::CloseBrace => self.close_brace(),
             Terminal::Semicolon => self.finish(Node::Empty(place), Focus::Finished),
             Terminal::Function => self.item(token, Heading::Declaration),
             Terminal::Service => self.item(token, Heading::Service),
             _ => {
-                self.stack.push(Frame::Expression(place))?;
+                self.stack.push(Level::Expression(place))?;
                 self.operand(token)
             }
         }

@@ -4,13 +4,13 @@ ghost use Rattle.std.specs.Prelude.{◌≡◌, true, ◌+◌, ◌≤◌};
 ghost use Rattle.mt_grammar.specs.Machine as spec;
 ghost use Rattle.mt_grammar.specs.Grammar as grammar;
 ghost use Rattle.mt_parser_marks.specs.Views.{token_of};
-ghost use Rattle.mt_parser_machine.specs.Views.{frame_of};
+ghost use Rattle.mt_parser_machine.specs.Views.{level_of};
 ghost use Rattle.mt_parser_machine.specs.Steps.{Steps};
 ghost use Rattle.mt_parser_machine.specs.Counts.{count_of, counted};
 ghost use Rattle.mt_parser_machine.specs.Families.{is_statement_word};
 
 use crate::focus::Focus;
-use crate::frame::Frame;
+use crate::level::Level;
 use crate::machine::{Machine, Step};
 use mt_grammar::{Declaration, Terminal};
 use mt_parser_marks::{Node, Token};
@@ -27,35 +27,35 @@ fn needs_value(declaration: Declaration) -> bool
 }
 
 impl<'a> Machine<'a> {
-    /// A token that the frame of a statement names.
-    pub fn statement_word(&mut self, token: Token<'a>, top: Frame<'a>) -> Step
-        requires { count_of (frame_of top) + counted self.old.stack ≤ 1000000 }
-        ensures { is_statement_word (frame_of top.entry) ≡ true → Steps result (spec.word_by (token_of token.entry) (frame_of top.entry) token.entry.terminal self.old.stack self.old.nodes) self.new }
+    /// A token that the level of a statement names.
+    pub fn statement_word(&mut self, token: Token<'a>, top: Level<'a>) -> Step
+        requires { count_of (level_of top) + counted self.old.stack ≤ 1000000 }
+        ensures { is_statement_word (level_of top.entry) ≡ true → Steps result (spec.word_by (token_of token.entry) (level_of top.entry) token.entry.terminal self.old.stack self.old.nodes) self.new }
     {
         match (top, token.terminal) {
-            (Frame::IfOpen(place), Terminal::Open) => {
-                self.open(Frame::IfTest(place), Focus::Operand)
+            (Level::IfOpen(place), Terminal::Open) => {
+                self.open(Level::IfTest(place), Focus::Operand)
             }
-            (Frame::WhileOpen(place), Terminal::Open) => {
-                self.open(Frame::WhileTest(place), Focus::Operand)
+            (Level::WhileOpen(place), Terminal::Open) => {
+                self.open(Level::WhileTest(place), Focus::Operand)
             }
-            (Frame::ForOpen(place), Terminal::Open) => {
-                self.open(Frame::ForStart(place), Focus::First)
+            (Level::ForOpen(place), Terminal::Open) => {
+                self.open(Level::ForStart(place), Focus::First)
             }
-            (Frame::DeclName(declaration, place, count), Terminal::Name) => {
+            (Level::DeclName(declaration, place, count), Terminal::Name) => {
                 self.nodes.push(Node::DeclName(token.mark))?;
-                self.open(Frame::DeclNext(declaration, place, count + 1), Focus::Word)
+                self.open(Level::DeclNext(declaration, place, count + 1), Focus::Word)
             }
-            (Frame::DeclNext(declaration, place, count), Terminal::Assign(None)) => {
-                self.open(Frame::DeclValue(declaration, place, count), Focus::Operand)
+            (Level::DeclNext(declaration, place, count), Terminal::Assign(None)) => {
+                self.open(Level::DeclValue(declaration, place, count), Focus::Operand)
             }
-            (Frame::DeclNext(declaration, place, count), _) => {
+            (Level::DeclNext(declaration, place, count), _) => {
                 if needs_value(declaration) {
                     return Ok(None);
                 }
                 self.declared(token, declaration, place, count)
             }
-            (Frame::Jump(place, jump), _) => {
+            (Level::Jump(place, jump), _) => {
                 self.nodes.push(Node::Jump(place, jump))?;
                 self.ended(token)
             }

@@ -3,42 +3,42 @@
 ghost use Rattle.std.specs.Prelude.{◌≡◌, true};
 ghost use Rattle.mt_grammar.specs.Machine as spec;
 ghost use Rattle.mt_parser_marks.specs.Views.{token_of};
-ghost use Rattle.mt_parser_machine.specs.Views.{frame_of};
+ghost use Rattle.mt_parser_machine.specs.Views.{level_of};
 ghost use Rattle.mt_parser_machine.specs.Steps.{Steps};
 ghost use Rattle.mt_parser_machine.specs.Families.{is_try_word};
 
 use crate::focus::Focus;
-use crate::frame::Frame;
+use crate::level::Level;
 use crate::machine::{Machine, Step};
 use mt_grammar::Terminal;
 use mt_parser_marks::Token;
 
 impl<'a> Machine<'a> {
-    /// A token that the frame of a `try` names.
-    pub fn try_word(&mut self, token: Token<'a>, top: Frame<'a>) -> Step
-        ensures { is_try_word (frame_of top.entry) ≡ true → Steps result (spec.word_by (token_of token.entry) (frame_of top.entry) token.entry.terminal self.old.stack self.old.nodes) self.new }
+    /// A token that the level of a `try` names.
+    pub fn try_word(&mut self, token: Token<'a>, top: Level<'a>) -> Step
+        ensures { is_try_word (level_of top.entry) ≡ true → Steps result (spec.word_by (token_of token.entry) (level_of top.entry) token.entry.terminal self.old.stack self.old.nodes) self.new }
     {
         match (top, token.terminal) {
-            (Frame::TryOpen(place), Terminal::OpenBrace) => {
+            (Level::TryOpen(place), Terminal::OpenBrace) => {
                 self.open_in(
-                    Frame::TryBlock(place),
-                    Frame::Block(token.mark.place, 0),
+                    Level::TryBlock(place),
+                    Level::Block(token.mark.place, 0),
                     Focus::Statement,
                 )
             }
-            (Frame::CatchOpen(place), Terminal::Open) => {
-                self.open(Frame::CatchName(place), Focus::Word)
+            (Level::CatchOpen(place), Terminal::Open) => {
+                self.open(Level::CatchName(place), Focus::Word)
             }
-            (Frame::CatchName(place), Terminal::Name) => {
-                self.open_named(token, Frame::CatchClose(place))
+            (Level::CatchName(place), Terminal::Name) => {
+                self.open_named(token, Level::CatchClose(place))
             }
-            (Frame::CatchClose(place), Terminal::Close) => {
-                self.open(Frame::CatchBrace(place), Focus::Word)
+            (Level::CatchClose(place), Terminal::Close) => {
+                self.open(Level::CatchBrace(place), Focus::Word)
             }
-            (Frame::CatchBrace(place), Terminal::OpenBrace) => {
+            (Level::CatchBrace(place), Terminal::OpenBrace) => {
                 self.open_in(
-                    Frame::CatchBlock(place),
-                    Frame::Block(token.mark.place, 0),
+                    Level::CatchBlock(place),
+                    Level::Block(token.mark.place, 0),
                     Focus::Statement,
                 )
             }

@@ -4,7 +4,7 @@ use mt_tree::{Binary, Place, StepKind, Unary};
 
 /// What is open on the stack of the machine, with the place where it began and how much of it is finished.
 #[derive(Clone, Copy)]
-pub enum Frame<'a> {
+pub enum Level<'a> {
     // Statements and items.
     Program(usize),
     Block(Place, usize),
