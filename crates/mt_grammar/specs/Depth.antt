@@ -7,7 +7,7 @@ use Rattle.mt_grammar.specs.declared.terminal.Heading.TheVariants as heading
 use Rattle.mt_grammar.specs.Tree.{Stmts}
 use Rattle.mt_grammar.specs.Nodes.{Node, Nodes}
 use Rattle.mt_grammar.specs.Nodes as n
-use Rattle.mt_grammar.specs.Rose.{Rose, rose, Roses, no_roses, roses_and, stmts_roses}
+use Rattle.mt_grammar.specs.ParseTree.{ParseTree, parse_tree, ParseTrees, no_trees, trees_and, stmts_trees}
 
 -- the place of a statement or an expression
 abbrev pub counted_place : Node → Option Place
@@ -60,16 +60,16 @@ or_else (Some p) later = Some p
 
 -- the first place at level 1, in the order of the text
 abbrev mutual
-  pub first_at : Rose → ℕ → Option Place
-  first_at (rose x rs) l = found_at (counted_place x) l (firsts_at rs (below (counted_place x) l))
+  pub first_at : ParseTree → ℕ → Option Place
+  first_at (parse_tree x rs) l = found_at (counted_place x) l (firsts_at rs (below (counted_place x) l))
 
-  pub firsts_at : Roses → ℕ → Option Place
-  firsts_at no_roses l = None
-  firsts_at (roses_and rs r) l = or_else (firsts_at rs l) (first_at r l)
+  pub firsts_at : ParseTrees → ℕ → Option Place
+  firsts_at no_trees l = None
+  firsts_at (trees_and rs r) l = or_else (firsts_at rs l) (first_at r l)
 
 -- where the first node of a program stands that is deeper than the limit
 abbrev pub too_deep_at : ℕ → Stmts → Option Place
-too_deep_at limit ss = firsts_at (stmts_roses ss no_roses) (limit + 1)
+too_deep_at limit ss = firsts_at (stmts_trees ss no_trees) (limit + 1)
 
 -- ---- the same over the nodes, from the last one back
 

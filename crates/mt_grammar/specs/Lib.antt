@@ -6,6 +6,6 @@ pub mod Stack
 pub mod Machine
 pub mod Values
 pub mod Continues
-pub mod Rose
+pub mod ParseTree
 pub mod Depth
 pub mod Samples

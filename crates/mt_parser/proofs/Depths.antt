@@ -9,7 +9,7 @@ use Rattle.mt_syntax.specs.Fold.{Every, ExprKindLayer}
 use Rattle.mt_syntax.specs.Gathering.{of_expr_kind}
 use Rattle.mt_syntax.specs.declared.tree.ExprKind.TheOpen.{ExprKind-F}
 use Rattle.mt_grammar.specs.Depth.{below, counted_place, first_at, firsts_at, found_at, or_else, too_deep_at}
-use Rattle.mt_grammar.specs.Rose.{Rose, Roses}
+use Rattle.mt_grammar.specs.ParseTree.{ParseTree, ParseTrees}
 use Rattle.mt_grammar.specs.Tree.{Stmts}
 use Rattle.mt_parser_builder.specs.Program.{program_of}
 use Rattle.mt_parser.proofs.Gathering.{IsPlain}
@@ -25,10 +25,10 @@ IsDepth (Some p) l depth = l ≤ depth
 abbrev Within : (ℕ → Option Place) → ℕ → Type 0
 Within first depth = (l : ℕ) → 1 ≤ l → IsDepth (first l) l depth
 
-abbrev NodeWithin : Rose → ℕ → ℕ → ℕ → Type 0
+abbrev NodeWithin : ParseTree → ℕ → ℕ → ℕ → Type 0
 NodeWithin r a m depth = Within (first_at r) depth
 
-abbrev RowWithin : Roses → ℕ → ℕ → ℕ → Type 0
+abbrev RowWithin : ParseTrees → ℕ → ℕ → ℕ → Type 0
 RowWithin rs a m depth = Within (firsts_at rs) depth
 
 max_joins : Joins 0 max
@@ -40,7 +40,7 @@ both_within None (Some p) l x y h g = grind (arith, nat_tests)
 both_within (Some p) other l x y h g = grind (arith, nat_tests)
 
 -- a statement or an expression is one deeper than what is in it
-one_more : (o : Option Place) (rs : Roses) (depth : ℕ) → Counts o → Within (firsts_at rs) depth → Within (λ l. found_at o l (firsts_at rs (below o l))) (suc depth)
+one_more : (o : Option Place) (rs : ParseTrees) (depth : ℕ) → Counts o → Within (firsts_at rs) depth → Within (λ l. found_at o l (firsts_at rs (below o l))) (suc depth)
 one_more None rs depth c h l some = absurd c
 one_more (Some p) rs depth c h l some = by (l == 1) refl
   where
@@ -52,7 +52,7 @@ one_more (Some p) rs depth c h l some = by (l == 1) refl
     by true is = let e = eqb-true l 1 is in omega arith
     by false is = let two : 2 ≤ l = grind (arith, nat_tests) in deeper (firsts_at rs (l - 1)) (l - 1) (omega arith) (h (l - 1) (omega arith))
 
-as_deep : (o : Option Place) (rs : Roses) (depth : ℕ) → Passes o → Within (firsts_at rs) depth → Within (λ l. found_at o l (firsts_at rs (below o l))) depth
+as_deep : (o : Option Place) (rs : ParseTrees) (depth : ℕ) → Passes o → Within (firsts_at rs) depth → Within (λ l. found_at o l (firsts_at rs (below o l))) depth
 as_deep None rs depth c h = h
 as_deep (Some p) rs depth c h = absurd c
 

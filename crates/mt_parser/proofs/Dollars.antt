@@ -5,7 +5,7 @@ use Rattle.mt_syntax.specs.Fold.{Every, ExprKindLayer}
 use Rattle.mt_syntax.specs.Gathering.{of_expr_kind, of_markup_child, of_markup_value}
 use Rattle.mt_syntax.specs.Numbering.{AreNumbers, dollars_of, dollars_of_kind}
 use Rattle.mt_syntax.specs.declared.tree.ExprKind.TheOpen.{ExprKind-F}
-use Rattle.mt_grammar.specs.Rose.{Rose, Roses}
+use Rattle.mt_grammar.specs.ParseTree.{ParseTree, ParseTrees}
 use Rattle.mt_grammar.specs.Tree.{Stmts}
 use Rattle.mt_parser_builder.specs.declared.tier.Tier.{Tier}
 use Rattle.mt_parser_builder.specs.declared.tier.Tier.TheVariants as tier
@@ -74,7 +74,7 @@ listing = record {
   values = λ v x plain. refl;
 }
 
-rules : Rules listing (Dollars {R = Rose}) (Dollars {R = Roses})
+rules : Rules listing (Dollars {R = ParseTree}) (Dollars {R = ParseTrees})
 rules = record {
   nothing = none_counted;
   behind = λ rs r k s x t y u a b. both_counted k s (x tt) t (y tt) u a b;
@@ -94,5 +94,5 @@ rules = record {
 
 pub dollars_are_numbered : (ss : Stmts) (s : Found) → let r = stmts_of tier.Client ss (within s) in AreNumbers (dollars_of r.0) (length r.1.dollars)
 dollars_are_numbered ss s =
-    let a = body_gathers listing (Dollars {R = Rose}) (Dollars {R = Roses}) rules ss tier.Client (within s) in
+    let a = body_gathers listing (Dollars {R = ParseTree}) (Dollars {R = ParseTrees}) rules ss tier.Client (within s) in
     a.are ∙ ap (range_with_len 0) (let h = a.size in omega arith)

@@ -13,7 +13,7 @@ use Rattle.mt_syntax.specs.Whole.{on_dollar, on_tilde, on_tilde_number, on_progr
 use Rattle.mt_grammar.specs.Depth.{counted_place}
 use Rattle.mt_grammar.specs.Nodes.{Node}
 use Rattle.mt_grammar.specs.Nodes as n
-use Rattle.mt_grammar.specs.Rose.{Rose, rose, Roses, no_roses, roses_and, stmts_roses}
+use Rattle.mt_grammar.specs.ParseTree.{ParseTree, parse_tree, ParseTrees, no_trees, trees_and, stmts_trees}
 use Rattle.mt_grammar.specs.Tree.{Stmts}
 use Rattle.mt_parser_builder.specs.declared.tier.Tier.{Tier}
 use Rattle.mt_parser_builder.specs.declared.tier.Tier.TheVariants as tier
@@ -81,13 +81,13 @@ module _ {X : Type 0} (p : ProgramGathering X) where
   }
 
   -- `Of r a m x`: the node r, whose tildes are numbered from a on and are so many, gives x
-  module _ (Of : Rose → ℕ → ℕ → X → Type 0) (Row : Roses → ℕ → ℕ → X → Type 0) where
+  module _ (Of : ParseTree → ℕ → ℕ → X → Type 0) (Row : ParseTrees → ℕ → ℕ → X → Type 0) where
     pub record ProgramRules : Type 0 where
-      pub nothing : (a : ℕ) → Row no_roses a 0 p.none
-      pub behind : (rs : Roses) (r : Rose) (a i : ℕ) (x : X) (j : ℕ) (y : X) → Row rs a i x → Of r (a + i) j y → Row (roses_and rs r) a (i + j) (p.join x y)
-      pub counted : (z : Node) (rs : Roses) (a i : ℕ) (x : X) → Counts (counted_place z) → Row rs a i x → Of (rose z rs) a i (p.wrap x)
-      pub passed : (z : Node) (rs : Roses) (a i : ℕ) (x : X) → Passes (counted_place z) → Row rs a i x → Of (rose z rs) a i x
-      pub at_tilde : (place : Place) (i : ℕ) (rs : Roses) (a m : ℕ) (x : X) → Row rs (a + 1) m x → Of (rose (n.Tilde place i) rs) a (suc m) (p.wrap (p.numbered a x))
+      pub nothing : (a : ℕ) → Row no_trees a 0 p.none
+      pub behind : (rs : ParseTrees) (r : ParseTree) (a i : ℕ) (x : X) (j : ℕ) (y : X) → Row rs a i x → Of r (a + i) j y → Row (trees_and rs r) a (i + j) (p.join x y)
+      pub counted : (z : Node) (rs : ParseTrees) (a i : ℕ) (x : X) → Counts (counted_place z) → Row rs a i x → Of (parse_tree z rs) a i (p.wrap x)
+      pub passed : (z : Node) (rs : ParseTrees) (a i : ℕ) (x : X) → Passes (counted_place z) → Row rs a i x → Of (parse_tree z rs) a i x
+      pub at_tilde : (place : Place) (i : ℕ) (rs : ParseTrees) (a m : ℕ) (x : X) → Row rs (a + 1) m x → Of (parse_tree (n.Tilde place i) rs) a (suc m) (p.wrap (p.numbered a x))
 
     -- from s to t these tildes and dollars were found, and where they are looked up the node gives what the rules say
     pub record FoundBetween (Holds : ℕ → ℕ → X → Type 0) (k : Tier) (s : Found) (x : Lookups → X) (t : Found) : Type 0 where
@@ -99,10 +99,10 @@ module _ {X : Type 0} (p : ProgramGathering X) where
       pub fits : FitsTier k more
       pub holds : (v : Lookups) → Has v.tildes (next_tilde s) new → Has v.dollars (length s.dollars) more → length new ≤ v.nest → Holds (next_tilde s) (length new) (x v)
 
-    abbrev OfFound : Rose → Tier → Found → (Lookups → X) → Found → Type 0
+    abbrev OfFound : ParseTree → Tier → Found → (Lookups → X) → Found → Type 0
     OfFound r = FoundBetween (Of r)
 
-    abbrev RowFound : Roses → Tier → Found → (Lookups → X) → Found → Type 0
+    abbrev RowFound : ParseTrees → Tier → Found → (Lookups → X) → Found → Type 0
     RowFound rs = FoundBetween (Row rs)
 
     module _ (rules : ProgramRules) where
@@ -117,7 +117,7 @@ module _ {X : Type 0} (p : ProgramGathering X) where
       none_fits tier.Client = tt
       none_fits tier.Server = refl
 
-      found_nothing : (k : Tier) (s : Found) → RowFound no_roses k s (λ v. p.none) s
+      found_nothing : (k : Tier) (s : Found) → RowFound no_trees k s (λ v. p.none) s
       found_nothing k s = record {
         new = [];
         more = [];
@@ -128,8 +128,8 @@ module _ {X : Type 0} (p : ProgramGathering X) where
         holds = λ v h g l. rules.nothing (next_tilde s);
       }
 
-      found_behind : (rs : Roses) (r : Rose) (k : Tier) (s : Found) (x : Lookups → X) (t : Found) (y : Lookups → X) (u : Found)
-          → RowFound rs k s x t → OfFound r k t y u → RowFound (roses_and rs r) k s (λ v. p.join (x v) (y v)) u
+      found_behind : (rs : ParseTrees) (r : ParseTree) (k : Tier) (s : Found) (x : Lookups → X) (t : Found) (y : Lookups → X) (u : Found)
+          → RowFound rs k s x t → OfFound r k t y u → RowFound (trees_and rs r) k s (λ v. p.join (x v) (y v)) u
       found_behind rs r k s x t y u a b = record {
         new = a.new ++ b.new;
         more = a.more ++ b.more;
@@ -144,17 +144,17 @@ module _ {X : Type 0} (p : ProgramGathering X) where
           count = length-append a.new b.new
 
           joined : (v : Lookups) → Has v.tildes (next_tilde s) (a.new ++ b.new) → Has v.dollars (length s.dollars) (a.more ++ b.more) → length (a.new ++ b.new) ≤ v.nest
-              → Row (roses_and rs r) (next_tilde s) (length (a.new ++ b.new)) (p.join (x v) (y v))
+              → Row (trees_and rs r) (next_tilde s) (length (a.new ++ b.new)) (p.join (x v) (y v))
           joined v h g l =
               let at = same_next s t a.new a.before a.tildes in
               let end : length t.dollars ≡ length s.dollars + length a.more = ap length a.dollars ∙ length-append s.dollars a.more in
               let first = a.holds v (has_first v.tildes (next_tilde s) a.new b.new h) (has_first v.dollars (length s.dollars) a.more b.more g) (omega (arith, l, count)) in
               let last = b.holds v (subst (λ i. Has v.tildes i b.new) (sym at) (has_last v.tildes (next_tilde s) a.new b.new h))
               (subst (λ i. Has v.dollars i b.more) (sym end) (has_last v.dollars (length s.dollars) a.more b.more g)) (omega (arith, l, count)) in
-              subst (λ i. Row (roses_and rs r) (next_tilde s) i (p.join (x v) (y v))) (sym count)
+              subst (λ i. Row (trees_and rs r) (next_tilde s) i (p.join (x v) (y v))) (sym count)
               (rules.behind rs r (next_tilde s) (length a.new) (x v) (length b.new) (y v) first (subst (λ i. Of r i (length b.new) (y v)) at last))
 
-      found_counted : (z : Node) (rs : Roses) (k : Tier) (s : Found) (x : Lookups → X) (t : Found) → Counts (counted_place z) → RowFound rs k s x t → OfFound (rose z rs) k s (λ v. p.wrap (x v)) t
+      found_counted : (z : Node) (rs : ParseTrees) (k : Tier) (s : Found) (x : Lookups → X) (t : Found) → Counts (counted_place z) → RowFound rs k s x t → OfFound (parse_tree z rs) k s (λ v. p.wrap (x v)) t
       found_counted z rs k s x t c a = record {
         new = a.new;
         more = a.more;
@@ -165,7 +165,7 @@ module _ {X : Type 0} (p : ProgramGathering X) where
         holds = λ v h g l. rules.counted z rs (next_tilde s) (length a.new) (x v) c (a.holds v h g l);
       }
 
-      found_passed : (z : Node) (rs : Roses) (k : Tier) (s : Found) (x : Lookups → X) (t : Found) → Passes (counted_place z) → RowFound rs k s x t → OfFound (rose z rs) k s x t
+      found_passed : (z : Node) (rs : ParseTrees) (k : Tier) (s : Found) (x : Lookups → X) (t : Found) → Passes (counted_place z) → RowFound rs k s x t → OfFound (parse_tree z rs) k s x t
       found_passed z rs k s x t c a = record {
         new = a.new;
         more = a.more;
@@ -177,7 +177,7 @@ module _ {X : Type 0} (p : ProgramGathering X) where
       }
 
       -- in a markup's dollar, where the code is the server's
-      found_in_dollar : (z : Node) (rs : Roses) (k : Tier) (s : Found) (x : Lookups → X) (t : Found) → Passes (counted_place z) → RowFound rs tier.Server s x t → OfFound (rose z rs) k s x t
+      found_in_dollar : (z : Node) (rs : ParseTrees) (k : Tier) (s : Found) (x : Lookups → X) (t : Found) → Passes (counted_place z) → RowFound rs tier.Server s x t → OfFound (parse_tree z rs) k s x t
       found_in_dollar z rs k s x t c a = record {
         new = a.new;
         more = a.more;
@@ -192,10 +192,10 @@ module _ {X : Type 0} (p : ProgramGathering X) where
           server_fits tier.Client e = tt
           server_fits tier.Server e = e
 
-      found_stray : (place : Place) (rs : Roses) (s : Found) (x : Lookups → X) (t : Found) → RowFound rs tier.Server s x t
-          → OfFound (rose (n.Dollar place) rs) tier.Server s (λ v. p.wrap (kind_by v (ExprKind-F.Stray (x v)))) t
+      found_stray : (place : Place) (rs : ParseTrees) (s : Found) (x : Lookups → X) (t : Found) → RowFound rs tier.Server s x t
+          → OfFound (parse_tree (n.Dollar place) rs) tier.Server s (λ v. p.wrap (kind_by v (ExprKind-F.Stray (x v)))) t
       found_stray place rs s x t a =
-          subst (λ y. OfFound (rose (n.Dollar place) rs) tier.Server s y t) (λ i v. p.wrap (sym (p.kind_stray (in_tilde v.tildes v.nest) (in_dollar (in_tilde v.tildes v.nest) v.dollars) (x v)) i))
+          subst (λ y. OfFound (parse_tree (n.Dollar place) rs) tier.Server s y t) (λ i v. p.wrap (sym (p.kind_stray (in_tilde v.tildes v.nest) (in_dollar (in_tilde v.tildes v.nest) v.dollars) (x v)) i))
           (found_counted (n.Dollar place) rs tier.Server s x t tt a)
 
       abbrev in_body : List syntax_stmt.Stmt → Lookups → X
@@ -204,8 +204,8 @@ module _ {X : Type 0} (p : ProgramGathering X) where
       abbrev own : Found → List syntax_stmt.Stmt → Found → Tilde
       own s body t = record { id = next_tilde s; body = body; dollars = t.dollars }
 
-      found_tilde : (place : Place) (i : ℕ) (rs : Roses) (k : Tier) (s : Found) (body : List syntax_stmt.Stmt) (t : Found) → RowFound rs tier.Client (within s) (in_body body) t
-          → OfFound (rose (n.Tilde place i) rs) k s (λ v. p.wrap (kind_by v (ExprKind-F.ExprKind::Tilde (next_tilde s)))) (tilde_made place s (body, t)).1
+      found_tilde : (place : Place) (i : ℕ) (rs : ParseTrees) (k : Tier) (s : Found) (body : List syntax_stmt.Stmt) (t : Found) → RowFound rs tier.Client (within s) (in_body body) t
+          → OfFound (parse_tree (n.Tilde place i) rs) k s (λ v. p.wrap (kind_by v (ExprKind-F.ExprKind::Tilde (next_tilde s)))) (tilde_made place s (body, t)).1
       found_tilde place i rs k s body t a = record {
         new = own s body t ∷ a.new;
         more = [];
@@ -217,7 +217,7 @@ module _ {X : Type 0} (p : ProgramGathering X) where
       }
         where
           inner : (all : List Tilde) (nest : ℕ) (dollars : List syntax_expr.Expr) → Has all (next_tilde s) (own s body t ∷ a.new) → suc (length a.new) ≤ nest
-              → Of (rose (n.Tilde place i) rs) (next_tilde s) (suc (length a.new)) (p.wrap (kind_by (record { tildes = all; nest = nest; dollars = dollars }) (ExprKind-F.ExprKind::Tilde (next_tilde s))))
+              → Of (parse_tree (n.Tilde place i) rs) (next_tilde s) (suc (length a.new)) (p.wrap (kind_by (record { tildes = all; nest = nest; dollars = dollars }) (ExprKind-F.ExprKind::Tilde (next_tilde s))))
           inner all zero dollars h l = absurd (omega (arith, l))
           inner all (suc nest) dollars h l =
               let v : Lookups = record { tildes = all; nest = nest; dollars = t.dollars } in
@@ -226,11 +226,11 @@ module _ {X : Type 0} (p : ProgramGathering X) where
               let body_is : in_tilde all (suc nest) (next_tilde s) ≡ p.numbered (next_tilde s) (in_body body v) =
               ap (λ o. p.numbered (next_tilde s) (on_tilde program_steps p.none (all_of p.none p.join) p.numbered (in_tilde all nest) o)) h.0 in
               let is = p.kind_tilde (in_tilde all (suc nest)) (in_dollar (in_tilde all (suc nest)) dollars) (next_tilde s) ∙ body_is in
-              subst (λ x. Of (rose (n.Tilde place i) rs) (next_tilde s) (suc (length a.new)) (p.wrap x)) (sym is)
+              subst (λ x. Of (parse_tree (n.Tilde place i) rs) (next_tilde s) (suc (length a.new)) (p.wrap x)) (sym is)
               (rules.at_tilde place i rs (next_tilde s) (length a.new) (in_body body v) (subst (λ j. Row rs j (length a.new) (in_body body v)) at row))
 
-      found_dollar : (place : Place) (rs : Roses) (s : Found) (e : syntax_expr.Expr) (t : Found) → RowFound rs tier.Server s (λ v. on_expr (steps by_lookups v) e) t
-          → OfFound (rose (n.Dollar place) rs) tier.Client s (λ v. p.wrap (kind_by v (ExprKind-F.ExprKind::Dollar (length t.dollars)))) (dollar_made tier.Client place (e, t)).1
+      found_dollar : (place : Place) (rs : ParseTrees) (s : Found) (e : syntax_expr.Expr) (t : Found) → RowFound rs tier.Server s (λ v. on_expr (steps by_lookups v) e) t
+          → OfFound (parse_tree (n.Dollar place) rs) tier.Client s (λ v. p.wrap (kind_by v (ExprKind-F.ExprKind::Dollar (length t.dollars)))) (dollar_made tier.Client place (e, t)).1
       found_dollar place rs s e t a = record {
         new = a.new;
         more = e ∷ [];
@@ -245,7 +245,7 @@ module _ {X : Type 0} (p : ProgramGathering X) where
           same = a.dollars ∙ ap (λ z. s.dollars ++ z) a.fits ∙ append-nil s.dollars
 
           given : (v : Lookups) → Has v.tildes (next_tilde s) a.new → Has v.dollars (length s.dollars) (e ∷ []) → length a.new ≤ v.nest
-              → Of (rose (n.Dollar place) rs) (next_tilde s) (length a.new) (p.wrap (kind_by v (ExprKind-F.ExprKind::Dollar (length t.dollars))))
+              → Of (parse_tree (n.Dollar place) rs) (next_tilde s) (length a.new) (p.wrap (kind_by v (ExprKind-F.ExprKind::Dollar (length t.dollars))))
           given v h g l =
               let w : Lookups = record { tildes = v.tildes; nest = v.nest; dollars = [] } in
               let x = on_expr (steps by_lookups w) e in
@@ -254,7 +254,7 @@ module _ {X : Type 0} (p : ProgramGathering X) where
               let is : kind_by v (ExprKind-F.ExprKind::Dollar (length t.dollars)) ≡ x =
               p.kind_dollar (in_tilde v.tildes v.nest) (in_dollar (in_tilde v.tildes v.nest) v.dollars) (length t.dollars)
               ∙ ap (on_dollar program_steps p.none (all_of p.none p.join) p.numbered (in_tilde v.tildes v.nest)) looked_up in
-              subst (λ y. Of (rose (n.Dollar place) rs) (next_tilde s) (length a.new) (p.wrap y)) (sym is) (rules.counted (n.Dollar place) rs (next_tilde s) (length a.new) x tt row)
+              subst (λ y. Of (parse_tree (n.Dollar place) rs) (next_tilde s) (length a.new) (p.wrap y)) (sym is) (rules.counted (n.Dollar place) rs (next_tilde s) (length a.new) x tt row)
 
       found_rules : Rules by_lookups OfFound RowFound
       found_rules = record {
@@ -269,11 +269,11 @@ module _ {X : Type 0} (p : ProgramGathering X) where
         at_value = λ rs k s x t a. found_in_dollar n.AttributeDollar rs k s x t tt a;
       }
 
-      pub program_holds : (ss : Stmts) → Row (stmts_roses ss no_roses) 0 (length (program_of ss).tildes) (in_program (program_of ss))
+      pub program_holds : (ss : Stmts) → Row (stmts_trees ss no_trees) 0 (length (program_of ss).tildes) (in_program (program_of ss))
       program_holds ss =
           let made = program_of ss in
           let a = body_gathers by_lookups OfFound RowFound found_rules ss tier.Server nothing_found in
           let v : Lookups = record { tildes = made.tildes; nest = suc (length made.tildes); dollars = [] } in
           let none_more : Has [] 0 a.more = subst (λ z. Has [] 0 z) (sym a.fits) tt in
           let row = a.holds v (subst (λ z. Has z 0 a.new) (sym a.tildes) (has_itself a.new)) none_more (let h = ap length a.tildes in omega arith) in
-          subst (λ i. Row (stmts_roses ss no_roses) 0 i (in_program made)) (sym (ap length a.tildes)) row
+          subst (λ i. Row (stmts_trees ss no_trees) 0 i (in_program made)) (sym (ap length a.tildes)) row

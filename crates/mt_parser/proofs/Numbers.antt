@@ -5,7 +5,7 @@ use Rattle.mt_syntax.specs.Fold.{Every, ExprKindLayer}
 use Rattle.mt_syntax.specs.Gathering.{of_expr_kind}
 use Rattle.mt_syntax.specs.Numbering.{AreNumbers, tildes_of, tildes_of_kind}
 use Rattle.mt_syntax.specs.declared.tree.ExprKind.TheOpen.{ExprKind-F}
-use Rattle.mt_grammar.specs.Rose.{Rose, Roses}
+use Rattle.mt_grammar.specs.ParseTree.{ParseTree, ParseTrees}
 use Rattle.mt_grammar.specs.Tree.{Stmts}
 use Rattle.mt_parser_builder.specs.Program.{program_of}
 use Rattle.mt_parser.proofs.Gathering.{IsPlain}
@@ -44,7 +44,7 @@ listing = record {
   kind_stray = λ tilde dollar x. refl;
 }
 
-rules : ProgramRules listing (Numbered {R = Rose}) (Numbered {R = Roses})
+rules : ProgramRules listing (Numbered {R = ParseTree}) (Numbered {R = ParseTrees})
 rules = record {
   nothing = λ a. refl;
   behind = λ rs r a i x j y h g. ap (λ z. z ++ y) h ∙ ap (λ z. range_with_len a i ++ z) g ∙ range_on a i j;
@@ -54,4 +54,4 @@ rules = record {
 }
 
 pub tildes_are_numbered : (ss : Stmts) → AreNumbers (tildes_of (program_of ss)) (length (program_of ss).tildes)
-tildes_are_numbered ss = program_holds listing (Numbered {R = Rose}) (Numbered {R = Roses}) rules ss
+tildes_are_numbered ss = program_holds listing (Numbered {R = ParseTree}) (Numbered {R = ParseTrees}) rules ss

@@ -6,7 +6,7 @@ use Rattle.mt_syntax.specs.Gathering.{all_of, of_expr_kind, of_markup_child, of_
 use Rattle.mt_syntax.specs.Tiers.{Tiers, both, by_tier, expr_kind_tiers, is_client_code, is_server_code, is_server_expr, markup_child_tiers, markup_value_tiers, tiers}
 use Rattle.mt_syntax.specs.declared.tree.Stmt.{Stmt}
 use Rattle.mt_syntax.specs.declared.tree.ExprKind.TheOpen.{ExprKind-F, MarkupChild-F, MarkupValue-F}
-use Rattle.mt_grammar.specs.Rose.{Rose, Roses}
+use Rattle.mt_grammar.specs.ParseTree.{ParseTree, ParseTrees}
 use Rattle.mt_grammar.specs.Tree.{Expr, Stmts}
 use Rattle.mt_parser_builder.specs.declared.tier.Tier.{Tier}
 use Rattle.mt_parser_builder.specs.declared.tier.Tier.TheVariants as tier
@@ -73,7 +73,7 @@ placing = record {
   values = λ v x plain. plain_values x plain;
 }
 
-rules : Rules placing (Placed {R = Rose}) (Placed {R = Roses})
+rules : Rules placing (Placed {R = ParseTree}) (Placed {R = ParseTrees})
 rules = record {
   nothing = λ k s. anywhere_is k;
   behind = λ rs r k s x t y u h g. both_are k (x tt) (y tt) h g;
@@ -95,7 +95,7 @@ all_client [] = refl
 all_client (s ∷ body) = ap (λ b. (on_stmt by_tier s).client && b) (all_client body)
 
 placed : (ss : Stmts) (k : Tier) (s : Found) → Allowed k (all_of anywhere both (map (on_stmt by_tier) (stmts_of k ss s).0))
-placed ss k s = body_gathers placing (Placed {R = Rose}) (Placed {R = Roses}) rules ss k s
+placed ss k s = body_gathers placing (Placed {R = ParseTree}) (Placed {R = ParseTrees}) rules ss k s
 
 pub server_code : (ss : Stmts) (s : Found) → is_server_code (stmts_of tier.Server ss s).0 ≡ true
 server_code ss s = all_server (stmts_of tier.Server ss s).0 ∙ placed ss tier.Server s
@@ -104,4 +104,4 @@ pub client_code : (ss : Stmts) (s : Found) → is_client_code (stmts_of tier.Cli
 client_code ss s = all_client (stmts_of tier.Client ss s).0 ∙ placed ss tier.Client s
 
 pub server_expr : (e : Expr) (s : Found) → is_server_expr (expr_of tier.Server e s).0 ≡ true
-server_expr e s = one_gathers placing (Placed {R = Rose}) (Placed {R = Roses}) rules e tier.Server s
+server_expr e s = one_gathers placing (Placed {R = ParseTree}) (Placed {R = ParseTrees}) rules e tier.Server s

@@ -3,7 +3,7 @@ use Rattle.std.proofs.Common.{◌≡◌, ℕ, ◌+◌, List, [], ◌∷◌, ◌+
 use Rattle.std.proofs.lemmas.List.{append-nil}
 use Rattle.mt_grammar.specs.Tree.{Title, a_service, a_declaration, a_named_expression, an_expression, heading_of, Key, plain, quoted, Names, no_names, names_and, names_count, Expr, name, number, text, property, constant, array, object, function, unary, step, operation, condition, assign, index, call, tilde, dollar, element, Exprs, no_exprs, exprs_and, exprs_count, Props, no_props, props_and, props_count, Attribute, attribute_plain, attribute_quoted, attribute_tilde, attribute_dollar, Attributes, no_attributes, attributes_and, attributes_count, Child, child_text, child_direct, child_dollar, Children, no_children, children_and, children_count, Decl, decl_only, decl_as, Decls, no_decls, decls_and, decls_count, Optional, absent, present, Start, start_optional, start_vars, Stmt, expression, var, declare, if_only, if_else, while, for, return, jump, throw, try, block, empty, Stmts, no_stmts, stmts_and, stmts_count}
 use Rattle.mt_grammar.specs.Nodes as n
-use Rattle.mt_grammar.specs.Rose.{Rose, rose, Roses, no_roses, roses_and, title_roses, names_roses, key_rose, expr_rose, attribute_rose, child_rose, decl_rose, optional_rose, start_rose, stmt_rose, exprs_roses, attributes_roses, children_roses, decls_roses, stmts_roses, props_roses}
+use Rattle.mt_grammar.specs.ParseTree.{ParseTree, parse_tree, ParseTrees, no_trees, trees_and, title_trees, names_trees, key_tree, expr_tree, attribute_tree, child_tree, decl_tree, optional_tree, start_tree, stmt_tree, exprs_trees, attributes_trees, children_trees, decls_trees, stmts_trees, props_trees}
 use Rattle.mt_parser_marks.specs.Values.{text_of}
 use Rattle.mt_syntax.specs.declared.tree.Mark as syntax_mark
 use Rattle.mt_syntax.specs.declared.tree.Expr as syntax_expr
@@ -31,12 +31,12 @@ free_node (part.Dollar p) children k s = on_both (all_made children tier.Server 
 free_node x children k s = node_made x children k s
 
 abbrev mutual
-  pub free : Rose → Making
-  free (rose x rs) = free_node (part_of x) (frees rs)
+  pub free : ParseTree → Making
+  free (parse_tree x rs) = free_node (part_of x) (frees rs)
 
-  pub frees : Roses → List Making
-  frees no_roses = []
-  frees (roses_and rs r) = frees rs ++ free r ∷ []
+  pub frees : ParseTrees → List Making
+  frees no_trees = []
+  frees (trees_and rs r) = frees rs ++ free r ∷ []
 
 -- ---- one more at the end of a row
 
@@ -181,17 +181,17 @@ title_values (a_declaration m) = value.Word (mark_of m) ∷ []
 title_values (a_named_expression m) = value.Word (mark_of m) ∷ []
 title_values an_expression = []
 
-title_makes : (h : Title) (k : Tier) (s : Found) → all_made (frees (title_roses h no_roses)) k s ≡ Some (title_values h, s)
+title_makes : (h : Title) (k : Tier) (s : Found) → all_made (frees (title_trees h no_trees)) k s ≡ Some (title_values h, s)
 title_makes (a_service m) k s = refl
 title_makes (a_declaration m) k s = refl
 title_makes (a_named_expression m) k s = refl
 title_makes an_expression k s = refl
 
-names_make : (ns : Names) (rs : Roses) (k : Tier) (s : Found) (vs : Values) (t : Found)
-    → all_made (frees rs) k s ≡ Some (vs, t) → all_made (frees (names_roses ns rs)) k s ≡ Some (vs ++ map value.Word (names_of ns), t)
+names_make : (ns : Names) (rs : ParseTrees) (k : Tier) (s : Found) (vs : Values) (t : Found)
+    → all_made (frees rs) k s ≡ Some (vs, t) → all_made (frees (names_trees ns rs)) k s ≡ Some (vs ++ map value.Word (names_of ns), t)
 names_make no_names rs k s vs t h = h ∙ ap (λ z. Some (z, t)) (sym (append-nil vs))
 names_make (names_and ns m) rs k s vs t h =
-    row_more value.Word (frees (names_roses ns rs)) (free (rose (n.Word m) no_roses)) k s vs (names_of ns) t (mark_of m) t (names_make ns rs k s vs t h) refl
+    row_more value.Word (frees (names_trees ns rs)) (free (parse_tree (n.Word m) no_trees)) k s vs (names_of ns) t (mark_of m) t (names_make ns rs k s vs t h) refl
 
 words_and_body : (ms : List syntax_mark.Mark) (m i : ℕ) (ss : List syntax_stmt.Stmt) (called : Option syntax_mark.Mark) → length ms ≡ m → length ss ≡ i
     → on_both (firsts word_first m (map value.Word ms ++ map value.Stmt ss)) (λ ns ws. on_both (firsts stmt_first i ws) (λ body us. Some (made.function called ns body))) ≡ Some (made.function called ms ss)
@@ -204,24 +204,24 @@ function_back (a_declaration m) ns i ss e = words_and_body (names_of ns) (names_
 function_back (a_named_expression m) ns i ss e = words_and_body (names_of ns) (names_count ns) i ss (Some (mark_of m)) (names_counted ns) e
 function_back an_expression ns i ss e = words_and_body (names_of ns) (names_count ns) i ss None (names_counted ns) e
 
-key_makes : (key : Key) (k : Tier) (s : Found) → free (key_rose key) k s ≡ Some (key_value key, s)
+key_makes : (key : Key) (k : Tier) (s : Found) → free (key_tree key) k s ≡ Some (key_value key, s)
 key_makes (plain m) k s = refl
 key_makes (quoted m) k s = refl
 
 -- ---- each spelled tree
 
 mutual
-  unfolding expr_rose expr_of
+  unfolding expr_tree expr_of
 
-  expr_makes : (e : Expr) (k : Tier) (s : Found) → free (expr_rose e) k s ≡ Some (value.Expr (expr_of k e s).0, (expr_of k e s).1)
+  expr_makes : (e : Expr) (k : Tier) (s : Found) → free (expr_tree e) k s ≡ Some (value.Expr (expr_of k e s).0, (expr_of k e s).1)
   expr_makes (name m) k s = refl
   expr_makes (number m) k s = refl
   expr_makes (text m) k s = refl
   expr_makes (property m) k s = refl
   expr_makes (constant p c) k s = refl
-  expr_makes (array p es) k s = rw (exprs_make es no_roses k s [] s refl, sym (exprs_counted es k s), exprs_back (exprs_of k es s).0) refl
-  expr_makes (object p ps) k s = rw (props_make ps no_roses k s [] s refl, sym (props_counted ps k s), props_back (props_of k ps s).0) refl
-  expr_makes (function p h ns ss) k s = rw (stmts_make ss (names_roses ns (title_roses h no_roses)) k s (title_values h ++ map value.Word (names_of ns)) s (names_make ns (title_roses h no_roses) k s (title_values h) s (title_makes h k s)), function_back h ns (stmts_count ss) (stmts_of k ss s).0 (stmts_counted ss k s)) refl
+  expr_makes (array p es) k s = rw (exprs_make es no_trees k s [] s refl, sym (exprs_counted es k s), exprs_back (exprs_of k es s).0) refl
+  expr_makes (object p ps) k s = rw (props_make ps no_trees k s [] s refl, sym (props_counted ps k s), props_back (props_of k ps s).0) refl
+  expr_makes (function p h ns ss) k s = rw (stmts_make ss (names_trees ns (title_trees h no_trees)) k s (title_values h ++ map value.Word (names_of ns)) s (names_make ns (title_trees h no_trees) k s (title_values h) s (title_makes h k s)), function_back h ns (stmts_count ss) (stmts_of k ss s).0 (stmts_counted ss k s)) refl
   expr_makes (unary p u a) k s = rw (expr_makes a k s) refl
   expr_makes (step p d a) k s = rw (expr_makes a k s) refl
   expr_makes (operation p o a b) k s = rw (expr_makes a k s, expr_makes b k (expr_of k a s).1) refl
@@ -229,74 +229,74 @@ mutual
   expr_makes (assign p o a b) k s = rw (expr_makes a k s, expr_makes b k (expr_of k a s).1) refl
   expr_makes (index p a b) k s = rw (expr_makes a k s, expr_makes b k (expr_of k a s).1) refl
   expr_makes (call p a es) k s = let x = expr_of k a s in
-      rw (exprs_make es (roses_and no_roses (expr_rose a)) k s (value.Expr x.0 ∷ []) x.1 (rw (expr_makes a k s) refl), sym (exprs_counted es k x.1), exprs_back (exprs_of k es x.1).0) refl
-  expr_makes (tilde p ss) k s = rw (stmts_make ss no_roses tier.Client (within s) [] (within s) refl, sym (stmts_counted ss tier.Client (within s)), stmts_back (stmts_of tier.Client ss (within s)).0) refl
+      rw (exprs_make es (trees_and no_trees (expr_tree a)) k s (value.Expr x.0 ∷ []) x.1 (rw (expr_makes a k s) refl), sym (exprs_counted es k x.1), exprs_back (exprs_of k es x.1).0) refl
+  expr_makes (tilde p ss) k s = rw (stmts_make ss no_trees tier.Client (within s) [] (within s) refl, sym (stmts_counted ss tier.Client (within s)), stmts_back (stmts_of tier.Client ss (within s)).0) refl
   expr_makes (dollar p e) k s = rw (expr_makes e tier.Server s) refl
   expr_makes (element m ats cs) k s =
       let word = value.Word (mark_of m) ∷ [] in let x = attributes_of k ats s in let y = children_of k cs x.1 in
-      let h = children_make cs (attributes_roses ats (roses_and no_roses (rose (n.Word m) no_roses))) k s (word ++ map attribute_value x.0) x.1 (attributes_make ats (roses_and no_roses (rose (n.Word m) no_roses)) k s word s refl) in
+      let h = children_make cs (attributes_trees ats (trees_and no_trees (parse_tree (n.Word m) no_trees))) k s (word ++ map attribute_value x.0) x.1 (attributes_make ats (trees_and no_trees (parse_tree (n.Word m) no_trees)) k s word s refl) in
       rw (h, sym (attributes_counted ats k s), sym (children_counted cs k x.1), attributes_back x.0 (map value.Child y.0), children_back y.0) refl
 
-  exprs_make : (es : Exprs) (rs : Roses) (k : Tier) (s : Found) (vs : Values) (t : Found) → all_made (frees rs) k s ≡ Some (vs, t)
-      → all_made (frees (exprs_roses es rs)) k s ≡ Some (vs ++ map value.Expr (exprs_of k es t).0, (exprs_of k es t).1)
+  exprs_make : (es : Exprs) (rs : ParseTrees) (k : Tier) (s : Found) (vs : Values) (t : Found) → all_made (frees rs) k s ≡ Some (vs, t)
+      → all_made (frees (exprs_trees es rs)) k s ≡ Some (vs ++ map value.Expr (exprs_of k es t).0, (exprs_of k es t).1)
   exprs_make no_exprs rs k s vs t h = h ∙ ap (λ z. Some (z, t)) (sym (append-nil vs))
   exprs_make (exprs_and es e) rs k s vs t h =
-      row_more value.Expr (frees (exprs_roses es rs)) (free (expr_rose e)) k s vs (exprs_of k es t).0 (exprs_of k es t).1 (expr_of k e (exprs_of k es t).1).0 (expr_of k e (exprs_of k es t).1).1 (exprs_make es rs k s vs t h) (expr_makes e k (exprs_of k es t).1)
+      row_more value.Expr (frees (exprs_trees es rs)) (free (expr_tree e)) k s vs (exprs_of k es t).0 (exprs_of k es t).1 (expr_of k e (exprs_of k es t).1).0 (expr_of k e (exprs_of k es t).1).1 (exprs_make es rs k s vs t h) (expr_makes e k (exprs_of k es t).1)
 
-  props_make : (ps : Props) (rs : Roses) (k : Tier) (s : Found) (vs : Values) (t : Found) → all_made (frees rs) k s ≡ Some (vs, t)
-      → all_made (frees (props_roses ps rs)) k s ≡ Some (vs ++ prop_values (props_of k ps t).0, (props_of k ps t).1)
+  props_make : (ps : Props) (rs : ParseTrees) (k : Tier) (s : Found) (vs : Values) (t : Found) → all_made (frees rs) k s ≡ Some (vs, t)
+      → all_made (frees (props_trees ps rs)) k s ≡ Some (vs ++ prop_values (props_of k ps t).0, (props_of k ps t).1)
   props_make no_props rs k s vs t h = h ∙ ap (λ z. Some (z, t)) (sym (append-nil vs))
   props_make (props_and ps key e) rs k s vs t h =
       let x = props_of k ps t in let y = expr_of k e x.1 in
-      one_more (frees (props_roses ps rs) ++ free (key_rose key) ∷ []) (free (expr_rose e)) k s
-      (one_more (frees (props_roses ps rs)) (free (key_rose key)) k s (props_make ps rs k s vs t h) (key_makes key k x.1)) (expr_makes e k x.1)
+      one_more (frees (props_trees ps rs) ++ free (key_tree key) ∷ []) (free (expr_tree e)) k s
+      (one_more (frees (props_trees ps rs)) (free (key_tree key)) k s (props_make ps rs k s vs t h) (key_makes key k x.1)) (expr_makes e k x.1)
       ∙ ap (λ z. Some (z, y.1)) (ap (λ z. z ++ value.Expr y.0 ∷ []) (append_assoc vs (prop_values x.0) (key_value key ∷ [])) ∙ append_assoc vs (prop_values x.0 ++ key_value key ∷ []) (value.Expr y.0 ∷ []) ∙ ap (λ z. vs ++ z) (props_and_last x.0 key y.0))
 
-  attribute_makes : (a : Attribute) (k : Tier) (s : Found) → free (attribute_rose a) k s ≡ Some (attribute_value (attribute_name a, (value_of k a s).0), (value_of k a s).1)
+  attribute_makes : (a : Attribute) (k : Tier) (s : Found) → free (attribute_tree a) k s ≡ Some (attribute_value (attribute_name a, (value_of k a s).0), (value_of k a s).1)
   attribute_makes (attribute_plain m) k s = refl
   attribute_makes (attribute_quoted m v) k s = refl
   attribute_makes (attribute_tilde m e) k s = rw (expr_makes e k s) refl
   attribute_makes (attribute_dollar m e) k s = rw (expr_makes e tier.Server s) refl
 
-  attributes_make : (ats : Attributes) (rs : Roses) (k : Tier) (s : Found) (vs : Values) (t : Found) → all_made (frees rs) k s ≡ Some (vs, t)
-      → all_made (frees (attributes_roses ats rs)) k s ≡ Some (vs ++ map attribute_value (attributes_of k ats t).0, (attributes_of k ats t).1)
+  attributes_make : (ats : Attributes) (rs : ParseTrees) (k : Tier) (s : Found) (vs : Values) (t : Found) → all_made (frees rs) k s ≡ Some (vs, t)
+      → all_made (frees (attributes_trees ats rs)) k s ≡ Some (vs ++ map attribute_value (attributes_of k ats t).0, (attributes_of k ats t).1)
   attributes_make no_attributes rs k s vs t h = h ∙ ap (λ z. Some (z, t)) (sym (append-nil vs))
   attributes_make (attributes_and ats a) rs k s vs t h =
-      row_more attribute_value (frees (attributes_roses ats rs)) (free (attribute_rose a)) k s vs (attributes_of k ats t).0 (attributes_of k ats t).1 (attribute_name a, (value_of k a (attributes_of k ats t).1).0) (value_of k a (attributes_of k ats t).1).1 (attributes_make ats rs k s vs t h) (attribute_makes a k (attributes_of k ats t).1)
+      row_more attribute_value (frees (attributes_trees ats rs)) (free (attribute_tree a)) k s vs (attributes_of k ats t).0 (attributes_of k ats t).1 (attribute_name a, (value_of k a (attributes_of k ats t).1).0) (value_of k a (attributes_of k ats t).1).1 (attributes_make ats rs k s vs t h) (attribute_makes a k (attributes_of k ats t).1)
 
-  child_makes : (c : Child) (k : Tier) (s : Found) → free (child_rose c) k s ≡ Some (value.Child (child_of k c s).0, (child_of k c s).1)
+  child_makes : (c : Child) (k : Tier) (s : Found) → free (child_tree c) k s ≡ Some (value.Child (child_of k c s).0, (child_of k c s).1)
   child_makes (child_text m) k s = refl
   child_makes (child_direct e) k s = rw (expr_makes e k s) refl
   child_makes (child_dollar e) k s = rw (expr_makes e tier.Server s) refl
 
-  children_make : (cs : Children) (rs : Roses) (k : Tier) (s : Found) (vs : Values) (t : Found) → all_made (frees rs) k s ≡ Some (vs, t)
-      → all_made (frees (children_roses cs rs)) k s ≡ Some (vs ++ map value.Child (children_of k cs t).0, (children_of k cs t).1)
+  children_make : (cs : Children) (rs : ParseTrees) (k : Tier) (s : Found) (vs : Values) (t : Found) → all_made (frees rs) k s ≡ Some (vs, t)
+      → all_made (frees (children_trees cs rs)) k s ≡ Some (vs ++ map value.Child (children_of k cs t).0, (children_of k cs t).1)
   children_make no_children rs k s vs t h = h ∙ ap (λ z. Some (z, t)) (sym (append-nil vs))
   children_make (children_and cs c) rs k s vs t h =
-      row_more value.Child (frees (children_roses cs rs)) (free (child_rose c)) k s vs (children_of k cs t).0 (children_of k cs t).1 (child_of k c (children_of k cs t).1).0 (child_of k c (children_of k cs t).1).1 (children_make cs rs k s vs t h) (child_makes c k (children_of k cs t).1)
+      row_more value.Child (frees (children_trees cs rs)) (free (child_tree c)) k s vs (children_of k cs t).0 (children_of k cs t).1 (child_of k c (children_of k cs t).1).0 (child_of k c (children_of k cs t).1).1 (children_make cs rs k s vs t h) (child_makes c k (children_of k cs t).1)
 
-  decl_makes : (d : Decl) (k : Tier) (s : Found) → free (decl_rose d) k s ≡ Some (decl_value (decl_of k d s).0, (decl_of k d s).1)
+  decl_makes : (d : Decl) (k : Tier) (s : Found) → free (decl_tree d) k s ≡ Some (decl_value (decl_of k d s).0, (decl_of k d s).1)
   decl_makes (decl_only m) k s = refl
   decl_makes (decl_as m e) k s = rw (expr_makes e k s) refl
 
-  decls_make : (ds : Decls) (rs : Roses) (k : Tier) (s : Found) (vs : Values) (t : Found) → all_made (frees rs) k s ≡ Some (vs, t)
-      → all_made (frees (decls_roses ds rs)) k s ≡ Some (vs ++ map decl_value (decls_of k ds t).0, (decls_of k ds t).1)
+  decls_make : (ds : Decls) (rs : ParseTrees) (k : Tier) (s : Found) (vs : Values) (t : Found) → all_made (frees rs) k s ≡ Some (vs, t)
+      → all_made (frees (decls_trees ds rs)) k s ≡ Some (vs ++ map decl_value (decls_of k ds t).0, (decls_of k ds t).1)
   decls_make no_decls rs k s vs t h = h ∙ ap (λ z. Some (z, t)) (sym (append-nil vs))
   decls_make (decls_and ds d) rs k s vs t h =
-      row_more decl_value (frees (decls_roses ds rs)) (free (decl_rose d)) k s vs (decls_of k ds t).0 (decls_of k ds t).1 (decl_of k d (decls_of k ds t).1).0 (decl_of k d (decls_of k ds t).1).1 (decls_make ds rs k s vs t h) (decl_makes d k (decls_of k ds t).1)
+      row_more decl_value (frees (decls_trees ds rs)) (free (decl_tree d)) k s vs (decls_of k ds t).0 (decls_of k ds t).1 (decl_of k d (decls_of k ds t).1).0 (decl_of k d (decls_of k ds t).1).1 (decls_make ds rs k s vs t h) (decl_makes d k (decls_of k ds t).1)
 
-  optional_makes : (o : Optional) (k : Tier) (s : Found) → free (optional_rose o) k s ≡ Some (value.Optional (optional_of k o s).0, (optional_of k o s).1)
+  optional_makes : (o : Optional) (k : Tier) (s : Found) → free (optional_tree o) k s ≡ Some (value.Optional (optional_of k o s).0, (optional_of k o s).1)
   optional_makes absent k s = refl
   optional_makes (present e) k s = rw (expr_makes e k s) refl
 
-  start_makes : (a : Start) (k : Tier) (s : Found) → free (start_rose a) k s ≡ Some (value.Start (start_of k a s).0, (start_of k a s).1)
+  start_makes : (a : Start) (k : Tier) (s : Found) → free (start_tree a) k s ≡ Some (value.Start (start_of k a s).0, (start_of k a s).1)
   start_makes (start_optional o) k s = rw (optional_makes o k s) refl
-  start_makes (start_vars ds) k s = rw (decls_make ds no_roses k s [] s refl, sym (decls_counted ds k s), decls_back (decls_of k ds s).0) refl
+  start_makes (start_vars ds) k s = rw (decls_make ds no_trees k s [] s refl, sym (decls_counted ds k s), decls_back (decls_of k ds s).0) refl
 
-  stmt_makes : (z : Stmt) (k : Tier) (s : Found) → free (stmt_rose z) k s ≡ Some (value.Stmt (stmt_of k z s).0, (stmt_of k z s).1)
+  stmt_makes : (z : Stmt) (k : Tier) (s : Found) → free (stmt_tree z) k s ≡ Some (value.Stmt (stmt_of k z s).0, (stmt_of k z s).1)
   stmt_makes (expression p e) k s = rw (expr_makes e k s) refl
-  stmt_makes (var p d ds) k s = rw (decls_make ds no_roses k s [] s refl, sym (decls_counted ds k s), decls_back (decls_of k ds s).0) refl
-  stmt_makes (declare p h ns ss) k s = rw (stmts_make ss (names_roses ns (title_roses h no_roses)) k s (title_values h ++ map value.Word (names_of ns)) s (names_make ns (title_roses h no_roses) k s (title_values h) s (title_makes h k s)), function_back h ns (stmts_count ss) (stmts_of k ss s).0 (stmts_counted ss k s)) refl
+  stmt_makes (var p d ds) k s = rw (decls_make ds no_trees k s [] s refl, sym (decls_counted ds k s), decls_back (decls_of k ds s).0) refl
+  stmt_makes (declare p h ns ss) k s = rw (stmts_make ss (names_trees ns (title_trees h no_trees)) k s (title_values h ++ map value.Word (names_of ns)) s (names_make ns (title_trees h no_trees) k s (title_values h) s (title_makes h k s)), function_back h ns (stmts_count ss) (stmts_of k ss s).0 (stmts_counted ss k s)) refl
   stmt_makes (if_only p e b) k s = rw (expr_makes e k s, stmt_makes b k (expr_of k e s).1) refl
   stmt_makes (if_else p e b c) k s = rw (expr_makes e k s, stmt_makes b k (expr_of k e s).1, stmt_makes c k (stmt_of k b (expr_of k e s).1).1) refl
   stmt_makes (while p e b) k s = rw (expr_makes e k s, stmt_makes b k (expr_of k e s).1) refl
@@ -307,11 +307,11 @@ mutual
   stmt_makes (jump p j) k s = refl
   stmt_makes (throw p e) k s = rw (expr_makes e k s) refl
   stmt_makes (try p a m b) k s = rw (stmt_makes a k s, stmt_makes b k (stmt_of k a s).1) refl
-  stmt_makes (block p ss) k s = rw (stmts_make ss no_roses k s [] s refl, sym (stmts_counted ss k s), stmts_back (stmts_of k ss s).0) refl
+  stmt_makes (block p ss) k s = rw (stmts_make ss no_trees k s [] s refl, sym (stmts_counted ss k s), stmts_back (stmts_of k ss s).0) refl
   stmt_makes (empty p) k s = refl
 
-  pub stmts_make : (ss : Stmts) (rs : Roses) (k : Tier) (s : Found) (vs : Values) (t : Found) → all_made (frees rs) k s ≡ Some (vs, t)
-      → all_made (frees (stmts_roses ss rs)) k s ≡ Some (vs ++ map value.Stmt (stmts_of k ss t).0, (stmts_of k ss t).1)
+  pub stmts_make : (ss : Stmts) (rs : ParseTrees) (k : Tier) (s : Found) (vs : Values) (t : Found) → all_made (frees rs) k s ≡ Some (vs, t)
+      → all_made (frees (stmts_trees ss rs)) k s ≡ Some (vs ++ map value.Stmt (stmts_of k ss t).0, (stmts_of k ss t).1)
   stmts_make no_stmts rs k s vs t h = h ∙ ap (λ z. Some (z, t)) (sym (append-nil vs))
   stmts_make (stmts_and ss z) rs k s vs t h =
-      row_more value.Stmt (frees (stmts_roses ss rs)) (free (stmt_rose z)) k s vs (stmts_of k ss t).0 (stmts_of k ss t).1 (stmt_of k z (stmts_of k ss t).1).0 (stmt_of k z (stmts_of k ss t).1).1 (stmts_make ss rs k s vs t h) (stmt_makes z k (stmts_of k ss t).1)
+      row_more value.Stmt (frees (stmts_trees ss rs)) (free (stmt_tree z)) k s vs (stmts_of k ss t).0 (stmts_of k ss t).1 (stmt_of k z (stmts_of k ss t).1).0 (stmt_of k z (stmts_of k ss t).1).1 (stmts_make ss rs k s vs t h) (stmt_makes z k (stmts_of k ss t).1)

@@ -1,7 +1,7 @@
 -- Where there are few nodes, the numbers of tildes and dollars have no bound to meet.
 use Rattle.std.proofs.Common.{◌≡◌, ℕ, ◌+◌, ◌<◌, ◌≤◌, List, [], ◌∷◌, ◌++◌, length, Option, Some, None, option_map, refl, sym, ap, subst, ◌∙◌, arith, length-append}
 use Rattle.std.proofs.lemmas.Bool.{lt-ltb}
-use Rattle.mt_grammar.specs.Rose.{Rose, rose, Roses, no_roses, roses_and}
+use Rattle.mt_grammar.specs.ParseTree.{ParseTree, parse_tree, ParseTrees, no_trees, trees_and}
 use Rattle.mt_tree.specs.declared.place.Place.{Place}
 use Rattle.mt_syntax.specs.declared.tree.Expr as syntax_expr
 use Rattle.mt_parser_builder.specs.declared.part.Part.{Part}
@@ -19,19 +19,19 @@ use Rattle.mt_parser_builder.specs.Syntax as made
 use Rattle.mt_parser_builder.proofs.Made.{free_node, free, frees, adds, all_and_last, one_more}
 
 abbrev mutual
-  pub checked : Rose → Making
-  checked (rose x rs) = node_made (part_of x) (checkeds rs)
+  pub checked : ParseTree → Making
+  checked (parse_tree x rs) = node_made (part_of x) (checkeds rs)
 
-  pub checkeds : Roses → List Making
-  checkeds no_roses = []
-  checkeds (roses_and rs r) = checkeds rs ++ checked r ∷ []
+  pub checkeds : ParseTrees → List Making
+  checkeds no_trees = []
+  checkeds (trees_and rs r) = checkeds rs ++ checked r ∷ []
 
-  pub weight : Rose → ℕ
-  weight (rose x rs) = weights rs + 1
+  pub weight : ParseTree → ℕ
+  weight (parse_tree x rs) = weights rs + 1
 
-  pub weights : Roses → ℕ
-  weights no_roses = 0
-  weights (roses_and rs r) = weights rs + weight r
+  pub weights : ParseTrees → ℕ
+  weights no_trees = 0
+  weights (trees_and rs r) = weights rs + weight r
 
 -- the number of no tilde and no dollar
 abbrev pub bound : ℕ
@@ -132,9 +132,9 @@ node_numbered (part.Stmt p x) fs cs w rest k s v u e far = plain_numbered fs cs 
 node_numbered (part.Piece x) fs cs w rest k s v u e far = plain_numbered fs cs w (tier_within (part.Piece x) k) (piece_made x) (λ v. v) rest k s v u e far
 
 mutual
-  rose_numbered : (r : Rose) → Numbered (free r) (checked r) (weight r)
-  rose_numbered (rose x rs) = node_numbered (part_of x) (frees rs) (checkeds rs) (weights rs) (roses_numbered rs)
+  tree_numbered : (r : ParseTree) → Numbered (free r) (checked r) (weight r)
+  tree_numbered (parse_tree x rs) = node_numbered (part_of x) (frees rs) (checkeds rs) (weights rs) (trees_numbered rs)
 
-  pub roses_numbered : (rs : Roses) → AllNumbered (frees rs) (checkeds rs) (weights rs)
-  roses_numbered no_roses = none_numbered
-  roses_numbered (roses_and rs r) = row_numbered (frees rs) (checkeds rs) (weights rs) (free r) (checked r) (weight r) (roses_numbered rs) (rose_numbered r)
+  pub trees_numbered : (rs : ParseTrees) → AllNumbered (frees rs) (checkeds rs) (weights rs)
+  trees_numbered no_trees = none_numbered
+  trees_numbered (trees_and rs r) = row_numbered (frees rs) (checkeds rs) (weights rs) (free r) (checked r) (weight r) (trees_numbered rs) (tree_numbered r)

@@ -4,10 +4,10 @@ use Rattle.std.proofs.lemmas.List.{append-nil, take-append-le, take_all, drop-ap
 use Rattle.std.proofs.lemmas.Bool.{le-ltb}
 use Rattle.mt_grammar.specs.Tree.{Stmts, no_stmts, stmts_and, stmts_count}
 use Rattle.mt_grammar.specs.Nodes.{Node, Nodes, stmts_nodes}
-use Rattle.mt_grammar.specs.Rose.{Rose as Spelled, rose, Roses, no_roses, roses_and, expr_rose, stmt_rose, stmts_roses}
+use Rattle.mt_grammar.specs.ParseTree.{ParseTree as Spelled, parse_tree, ParseTrees, no_trees, trees_and, expr_tree, stmt_tree, stmts_trees}
 use Rattle.mt_grammar.specs.Depth.{inside}
-use Rattle.mt_parser_builder.specs.declared.rose.Rose.{Rose}
-use Rattle.mt_parser_builder.specs.declared.rose.Rose.TheFolds.{fold-roll-Rose}
+use Rattle.mt_parser_builder.specs.declared.parse_tree.ParseTree.{ParseTree}
+use Rattle.mt_parser_builder.specs.declared.parse_tree.ParseTree.TheFolds.{fold-roll-ParseTree}
 use Rattle.mt_parser_builder.specs.declared.tier.Tier.TheVariants as tier
 use Rattle.mt_parser_builder.specs.declared.value.Value.TheVariants as value
 use Rattle.mt_syntax.specs.declared.program.Program.{Program}
@@ -15,33 +15,33 @@ use Rattle.mt_parser_builder.specs.declared.fault.Fault.{Fault}
 use Rattle.mt_parser_builder.specs.declared.fault.Fault.TheVariants as fault
 use Rattle.mt_parser_builder.specs.Answer.{Gives}
 use Rattle.mt_parser_builder.specs.Making.{Making, node_made}
-use Rattle.mt_parser_builder.specs.Roses.{layer_made, made_by}
+use Rattle.mt_parser_builder.specs.ParseTrees.{layer_made, made_by}
 use Rattle.mt_parser_builder.specs.Growing.{part_of, tree, grown_by, grown_on}
 use Rattle.mt_parser_builder.specs.Building.{program_made}
 use Rattle.mt_parser_builder.specs.Program.{program_of, nothing_found, stmts_of}
 use Rattle.mt_parser_marks.specs.declared.node.Node.{Node as CodeNode}
 use Rattle.mt_parser_marks.specs.NodeViews.{node_of, nodes_of}
-use Rattle.mt_parser_builder.proofs.Grown.{take_roses, grow, grew_on, grew, program_grew}
+use Rattle.mt_parser_builder.proofs.Grown.{take_trees, grow, grew_on, grew, program_grew}
 use Rattle.mt_parser_builder.proofs.Made.{stmts_make, stmts_back, stmts_counted}
-use Rattle.mt_parser_builder.proofs.Numbers.{checked, checkeds, weights, bound, roses_numbered}
+use Rattle.mt_parser_builder.proofs.Numbers.{checked, checkeds, weights, bound, trees_numbered}
 
 -- ---- the trees of the code
 
 abbrev mutual
-  code_rose : Spelled → Rose
-  code_rose (rose x rs) = tree (part_of x) (code_roses rs)
+  code_tree : Spelled → ParseTree
+  code_tree (parse_tree x rs) = tree (part_of x) (code_trees rs)
 
-  code_roses : Roses → List Rose
-  code_roses no_roses = []
-  code_roses (roses_and rs r) = code_roses rs ++ code_rose r ∷ []
+  code_trees : ParseTrees → List ParseTree
+  code_trees no_trees = []
+  code_trees (trees_and rs r) = code_trees rs ++ code_tree r ∷ []
 
 mutual
-  rose_same : (r : Spelled) → made_by (code_rose r) ≡ checked r
-  rose_same (rose x rs) = fold-roll-Rose Making layer_made (record { part = part_of x; children = code_roses rs }) ∙ ap (node_made (part_of x)) (roses_same rs)
+  tree_same : (r : Spelled) → made_by (code_tree r) ≡ checked r
+  tree_same (parse_tree x rs) = fold-roll-ParseTree Making layer_made (record { part = part_of x; children = code_trees rs }) ∙ ap (node_made (part_of x)) (trees_same rs)
 
-  roses_same : (rs : Roses) → map made_by (code_roses rs) ≡ checkeds rs
-  roses_same no_roses = refl
-  roses_same (roses_and rs r) = map-append made_by (code_roses rs) (code_rose r ∷ []) ∙ ap (λ z. z ++ made_by (code_rose r) ∷ []) (roses_same rs) ∙ ap (λ z. checkeds rs ++ z ∷ []) (rose_same r)
+  trees_same : (rs : ParseTrees) → map made_by (code_trees rs) ≡ checkeds rs
+  trees_same no_trees = refl
+  trees_same (trees_and rs r) = map-append made_by (code_trees rs) (code_tree r ∷ []) ∙ ap (λ z. z ++ made_by (code_tree r) ∷ []) (trees_same rs) ∙ ap (λ z. checkeds rs ++ z ∷ []) (tree_same r)
 
 -- ---- growing
 
@@ -49,30 +49,30 @@ and_then_of : {X Y : Type 0} (o : Option X) (f : X → Option Y) (y : Y) → opt
 and_then_of None f y e = absurd cc
 and_then_of (Some x) f y e = (x, refl, e)
 
-abbrev Split : ℕ → Roses → Roses → Roses → Type 0
-Split i rs f b = (code_roses rs ≡ code_roses f ++ code_roses b) × (length (code_roses b) ≡ i) × (weights rs ≡ weights f + weights b)
+abbrev Split : ℕ → ParseTrees → ParseTrees → ParseTrees → Type 0
+Split i rs f b = (code_trees rs ≡ code_trees f ++ code_trees b) × (length (code_trees b) ≡ i) × (weights rs ≡ weights f + weights b)
 
-abbrev front_in : Option (Roses × Roses) → Roses
-front_in None = no_roses
+abbrev front_in : Option (ParseTrees × ParseTrees) → ParseTrees
+front_in None = no_trees
 front_in (Some q) = q.0
 
-abbrev back_in : Option (Roses × Roses) → Roses
-back_in None = no_roses
+abbrev back_in : Option (ParseTrees × ParseTrees) → ParseTrees
+back_in None = no_trees
 back_in (Some q) = q.1
 
-taken_split : (i : ℕ) (rs f b : Roses) → take_roses i rs ≡ Some (f, b) → Split i rs f b
+taken_split : (i : ℕ) (rs f b : ParseTrees) → take_trees i rs ≡ Some (f, b) → Split i rs f b
 taken_split zero rs f b e =
-    subst (λ z. Split 0 rs z b) (ap front_in e) (subst (λ z. Split 0 rs rs z) (ap back_in e) (sym (append-nil (code_roses rs)), refl, omega arith))
-taken_split (suc i) no_roses f b e = absurd cc
-taken_split (suc i) (roses_and rs r) f b e =
-    let came = and_then_of {Y = Roses × Roses} (take_roses i rs) (λ q. Some (q.0, roses_and q.1 r)) (f, b) e in
+    subst (λ z. Split 0 rs z b) (ap front_in e) (subst (λ z. Split 0 rs rs z) (ap back_in e) (sym (append-nil (code_trees rs)), refl, omega arith))
+taken_split (suc i) no_trees f b e = absurd cc
+taken_split (suc i) (trees_and rs r) f b e =
+    let came = and_then_of {Y = ParseTrees × ParseTrees} (take_trees i rs) (λ q. Some (q.0, trees_and q.1 r)) (f, b) e in
     let q = came.0 in
     let h = taken_split i rs q.0 q.1 came.1 in
-    let long = length-append (code_roses q.1) (code_rose r ∷ []) in
-    subst (λ z. Split (suc i) (roses_and rs r) z b) (ap front_in came.2) (subst (λ z. Split (suc i) (roses_and rs r) q.0 z) (ap back_in came.2)
-    (ap (λ z. z ++ code_rose r ∷ []) h.0 ∙ append_assoc (code_roses q.0) (code_roses q.1) (code_rose r ∷ []), omega (arith, long, h.1), omega (arith, h.2)))
+    let long = length-append (code_trees q.1) (code_tree r ∷ []) in
+    subst (λ z. Split (suc i) (trees_and rs r) z b) (ap front_in came.2) (subst (λ z. Split (suc i) (trees_and rs r) q.0 z) (ap back_in came.2)
+    (ap (λ z. z ++ code_tree r ∷ []) h.0 ∙ append_assoc (code_trees q.0) (code_trees q.1) (code_tree r ∷ []), omega (arith, long, h.1), omega (arith, h.2)))
 
-split_grown : (x : Node) (front back : List Rose) → length back ≡ inside x → grown_by x (front ++ back) ≡ Some (front ++ tree (part_of x) back ∷ [])
+split_grown : (x : Node) (front back : List ParseTree) → length back ≡ inside x → grown_by x (front ++ back) ≡ Some (front ++ tree (part_of x) back ∷ [])
 split_grown x front back e =
     let long = length-append front back in
     let enough : nat_lt (length (front ++ back)) (inside x) ≡ false = le-ltb (length (front ++ back)) (inside x) (omega (arith, long, e)) in
@@ -81,57 +81,57 @@ split_grown x front back e =
     let last : drop (length front) (front ++ back) ≡ back = drop-append-le (length front) front back (omega arith) ∙ ap (λ z. z ++ back) (drop_all (length front) front (omega arith)) in
     rw (enough, kept, first, last) refl
 
-abbrev rose_in : Option Roses → Roses
-rose_in None = no_roses
-rose_in (Some rs) = rs
+abbrev tree_in : Option ParseTrees → ParseTrees
+tree_in None = no_trees
+tree_in (Some rs) = rs
 
-grown_same : (x : Node) (rs ws : Roses) → grow x rs ≡ Some ws → (grown_by x (code_roses rs) ≡ Some (code_roses ws)) × (weights ws ≡ weights rs + 1)
+grown_same : (x : Node) (rs ws : ParseTrees) → grow x rs ≡ Some ws → (grown_by x (code_trees rs) ≡ Some (code_trees ws)) × (weights ws ≡ weights rs + 1)
 grown_same x rs ws e =
-    let came = and_then_of {Y = Roses} (take_roses (inside x) rs) (λ q. Some (roses_and q.0 (rose x q.1))) ws e in
+    let came = and_then_of {Y = ParseTrees} (take_trees (inside x) rs) (λ q. Some (trees_and q.0 (parse_tree x q.1))) ws e in
     let q = came.0 in
     let h = taken_split (inside x) rs q.0 q.1 came.1 in
-    let is : roses_and q.0 (rose x q.1) ≡ ws = ap rose_in came.2 in
-    subst (λ z. (grown_by x (code_roses rs) ≡ Some (code_roses z)) × (weights z ≡ weights rs + 1)) is
-    (ap (grown_by x) h.0 ∙ split_grown x (code_roses q.0) (code_roses q.1) h.1, omega (arith, h.2))
+    let is : trees_and q.0 (parse_tree x q.1) ≡ ws = ap tree_in came.2 in
+    subst (λ z. (grown_by x (code_trees rs) ≡ Some (code_trees z)) × (weights z ≡ weights rs + 1)) is
+    (ap (grown_by x) h.0 ∙ split_grown x (code_trees q.0) (code_trees q.1) h.1, omega (arith, h.2))
 
 none_grew : (nodes : Nodes) → grew_on nodes None ≡ None
 none_grew [] = refl
 none_grew (x ∷ nodes) = none_grew nodes
 
-next_grown : (nodes : Nodes) (x : Node) (rs ws : Roses) (o : Option Roses)
-    → ((ts : Roses) → grew_on nodes (Some ts) ≡ Some ws → (grown_on nodes (Some (code_roses ts)) ≡ Some (code_roses ws)) × (weights ws ≡ weights ts + length nodes))
-    → grow x rs ≡ o → grew_on nodes o ≡ Some ws → (grown_on nodes (grown_by x (code_roses rs)) ≡ Some (code_roses ws)) × (weights ws ≡ weights rs + suc (length nodes))
+next_grown : (nodes : Nodes) (x : Node) (rs ws : ParseTrees) (o : Option ParseTrees)
+    → ((ts : ParseTrees) → grew_on nodes (Some ts) ≡ Some ws → (grown_on nodes (Some (code_trees ts)) ≡ Some (code_trees ws)) × (weights ws ≡ weights ts + length nodes))
+    → grow x rs ≡ o → grew_on nodes o ≡ Some ws → (grown_on nodes (grown_by x (code_trees rs)) ≡ Some (code_trees ws)) × (weights ws ≡ weights rs + suc (length nodes))
 next_grown nodes x rs ws None rest h e = let nothing = none_grew nodes in absurd cc
 next_grown nodes x rs ws (Some ts) rest h e =
     let one = grown_same x rs ts h in let more = rest ts e in
     (ap (grown_on nodes) one.0 ∙ more.0, omega (arith, one.1, more.1))
 
-all_grown : (nodes : Nodes) (rs ws : Roses) → grew_on nodes (Some rs) ≡ Some ws → (grown_on nodes (Some (code_roses rs)) ≡ Some (code_roses ws)) × (weights ws ≡ weights rs + length nodes)
-all_grown [] rs ws e = subst (λ z. (Some (code_roses rs) ≡ Some (code_roses z)) × (weights z ≡ weights rs + 0)) (ap rose_in e) (refl, omega arith)
+all_grown : (nodes : Nodes) (rs ws : ParseTrees) → grew_on nodes (Some rs) ≡ Some ws → (grown_on nodes (Some (code_trees rs)) ≡ Some (code_trees ws)) × (weights ws ≡ weights rs + length nodes)
+all_grown [] rs ws e = subst (λ z. (Some (code_trees rs) ≡ Some (code_trees z)) × (weights z ≡ weights rs + 0)) (ap tree_in e) (refl, omega arith)
 all_grown (x ∷ nodes) rs ws e = next_grown nodes x rs ws (grow x rs) (λ ts. all_grown nodes ts ws) refl e
 
 -- ---- the program
 
-stmts_long : (ss : Stmts) → length (code_roses (stmts_roses ss no_roses)) ≡ stmts_count ss
-unfolding expr_rose
+stmts_long : (ss : Stmts) → length (code_trees (stmts_trees ss no_trees)) ≡ stmts_count ss
+unfolding expr_tree
 stmts_long no_stmts = refl
-stmts_long (stmts_and ss s) = length-append (code_roses (stmts_roses ss no_roses)) (code_rose (stmt_rose s) ∷ []) ∙ ap (λ z. z + 1) (stmts_long ss)
+stmts_long (stmts_and ss s) = length-append (code_trees (stmts_trees ss no_trees)) (code_tree (stmt_tree s) ∷ []) ∙ ap (λ z. z + 1) (stmts_long ss)
 
 pub whole : (ss : Stmts) → length (stmts_nodes ss []) < bound → program_made (stmts_nodes ss []) ≡ Some (program_of ss)
 unfolding grew
 whole ss few =
-    let trees = stmts_roses ss no_roses in
-    let grew_all = all_grown (stmts_nodes ss []) no_roses trees (program_grew ss) in
-    let free = stmts_make ss no_roses tier.Server nothing_found [] nothing_found refl in
+    let trees = stmts_trees ss no_trees in
+    let grew_all = all_grown (stmts_nodes ss []) no_trees trees (program_grew ss) in
+    let free = stmts_make ss no_trees tier.Server nothing_found [] nothing_found refl in
     let made = stmts_of tier.Server ss nothing_found in
-    let near = roses_numbered trees tier.Server nothing_found (map value.Stmt made.0) made.1 free (record { tildes = omega (arith, grew_all.1); dollars = omega (arith, grew_all.1) }) in
-    let count : length (code_roses trees) ≡ length made.0 = stmts_long ss ∙ sym (stmts_counted ss tier.Server nothing_found) in
-    rw (grew_all.0, roses_same trees, near.0, count, stmts_back made.0) refl
+    let near = trees_numbered trees tier.Server nothing_found (map value.Stmt made.0) made.1 free (record { tildes = omega (arith, grew_all.1); dollars = omega (arith, grew_all.1) }) in
+    let count : length (code_trees trees) ≡ length made.0 = stmts_long ss ∙ sym (stmts_counted ss tier.Server nothing_found) in
+    rw (grew_all.0, trees_same trees, near.0, count, stmts_back made.0) refl
 
 -- each node of the tree is one of its trees
-pub nodes_weigh : (ss : Stmts) → weights (stmts_roses ss no_roses) ≡ length (stmts_nodes ss [])
+pub nodes_weigh : (ss : Stmts) → weights (stmts_trees ss no_trees) ≡ length (stmts_nodes ss [])
 unfolding grew
-nodes_weigh ss = let h = (all_grown (stmts_nodes ss []) no_roses (stmts_roses ss no_roses) (program_grew ss)).1 in omega arith
+nodes_weigh ss = let h = (all_grown (stmts_nodes ss []) no_trees (stmts_trees ss no_trees) (program_grew ss)).1 in omega arith
 
 mapped_length : (nodes : List CodeNode) → length (map node_of nodes) ≡ length nodes
 mapped_length [] = refl

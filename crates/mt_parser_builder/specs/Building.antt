@@ -6,7 +6,7 @@ use Rattle.mt_parser_builder.specs.declared.tier.Tier.TheVariants as tier
 use Rattle.mt_parser_builder.specs.Answer.{on_both}
 use Rattle.mt_parser_builder.specs.Parts.{stmt_first, firsts}
 use Rattle.mt_parser_builder.specs.Making.{all_made}
-use Rattle.mt_parser_builder.specs.Roses.{made_by}
+use Rattle.mt_parser_builder.specs.ParseTrees.{made_by}
 use Rattle.mt_parser_builder.specs.Growing.{grown}
 use Rattle.mt_parser_builder.specs.Program.{nothing_found}
 

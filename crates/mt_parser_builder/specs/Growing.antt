@@ -9,7 +9,7 @@ use Rattle.mt_parser_builder.specs.declared.part.Part.TheVariants as part
 use Rattle.mt_parser_builder.specs.declared.part.ExprPart.TheVariants as expr
 use Rattle.mt_parser_builder.specs.declared.part.StmtPart.TheVariants as stmt
 use Rattle.mt_parser_builder.specs.declared.part.Piece.TheVariants as piece
-use Rattle.mt_parser_builder.specs.declared.rose.Rose.{Rose, roll-Rose}
+use Rattle.mt_parser_builder.specs.declared.parse_tree.ParseTree.{ParseTree, roll-ParseTree}
 use Rattle.mt_parser_builder.specs.Syntax.{mark_of}
 
 abbrev pub part_of : Node → Part
@@ -60,17 +60,17 @@ part_of (n.Try p) = part.Stmt p stmt.Try
 part_of (n.Block p i) = part.Stmt p (stmt.Block i)
 part_of (n.Empty p) = part.Stmt p stmt.Empty
 
-abbrev pub tree : Part → List Rose → Rose
-tree x children = roll-Rose (record { part = x; children = children })
+abbrev pub tree : Part → List ParseTree → ParseTree
+tree x children = roll-ParseTree (record { part = x; children = children })
 
 -- A node takes as many trees as stand in it, the last ones, and is a tree with them.
-abbrev pub grown_by : Node → List Rose → Option (List Rose)
+abbrev pub grown_by : Node → List ParseTree → Option (List ParseTree)
 grown_by x trees =
     if nat_lt (length trees) (inside x) then None else Some (take (length trees - inside x) trees ++ tree (part_of x) (drop (length trees - inside x) trees) ∷ [])
 
-abbrev pub grown_on : Nodes → Option (List Rose) → Option (List Rose)
+abbrev pub grown_on : Nodes → Option (List ParseTree) → Option (List ParseTree)
 grown_on [] trees = trees
 grown_on (x ∷ nodes) trees = grown_on nodes (option_and_then (grown_by x) trees)
 
-abbrev pub grown : Nodes → Option (List Rose)
+abbrev pub grown : Nodes → Option (List ParseTree)
 grown nodes = grown_on nodes (Some [])

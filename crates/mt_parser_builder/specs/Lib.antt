@@ -5,6 +5,6 @@ pub mod Answer
 pub mod Parts
 pub mod Making
 pub mod State
-pub mod Roses
+pub mod ParseTrees
 pub mod Growing
 pub mod Building

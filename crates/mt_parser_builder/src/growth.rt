@@ -6,14 +6,14 @@ ghost use Rattle.mt_parser_builder.specs.Answer.{GivesList, Changes};
 ghost use Rattle.mt_parser_builder.specs.Growing.{grown_by, grown};
 
 use crate::fault::Fault;
+use crate::parse_tree::ParseTree;
 use crate::reading::{inside, part};
-use crate::rose::Rose;
 use mt_parser_marks::Node;
 use mt_tree::{NoMemory, Row, push};
 use std::alloc::Global;
 
 // The last trees, so many; the others stay.
-fn split(trees: &mut Vec<Rose>, kept: usize) -> Result<Vec<Rose>, NoMemory>
+fn split(trees: &mut Vec<ParseTree>, kept: usize) -> Result<Vec<ParseTree>, NoMemory>
     requires { kept ≤ length trees.old.items }
     ensures kept { OnOk result (trees.new.items ≡ take kept trees.old.items) }
     ensures given { IfOk result (λ last. last.items ≡ drop kept trees.old.items) }
@@ -24,7 +24,7 @@ fn split(trees: &mut Vec<Rose>, kept: usize) -> Result<Vec<Rose>, NoMemory>
     }
 }
 
-fn add(alloc: Global, node: &Node, trees: &mut Vec<Rose>) -> Result<(), Fault>
+fn add(alloc: Global, node: &Node, trees: &mut Vec<ParseTree>) -> Result<(), Fault>
     ensures { Changes result trees.new.items (grown_by (node_of node.now) trees.old.items) }
 {
     let count = inside(node);
@@ -35,13 +35,13 @@ fn add(alloc: Global, node: &Node, trees: &mut Vec<Rose>) -> Result<(), Fault>
     let children = split(trees, kept)?;
     let part = part(alloc, node)?;
     let children = Row::from_vec(alloc, children)?;
-    push(trees, Rose { part, children })?;
+    push(trees, ParseTree { part, children })?;
     Ok(())
 }
 
 // A loop, so that no source is too deep for it.
 #[tactic(auto, using(crate::proofs::Failing::none_grown))]
-pub(crate) fn grow(alloc: Global, nodes: &[Node]) -> Result<Vec<Rose>, Fault>
+pub(crate) fn grow(alloc: Global, nodes: &[Node]) -> Result<Vec<ParseTree>, Fault>
     ensures { GivesList result (grown (map node_of nodes.now)) }
 {
     let mut trees = Vec::new(alloc);

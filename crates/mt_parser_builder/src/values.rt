@@ -6,16 +6,16 @@ ghost use Rattle.mt_syntax.specs.declared.tree.Expr.{roll-Expr};
 ghost use Rattle.mt_syntax.specs.declared.tree.Stmt.{roll-Stmt};
 ghost use Rattle.mt_parser_builder.specs.Answer.{GivesWith, GivesItems};
 ghost use Rattle.mt_parser_builder.specs.Making.{dollar_value, finished, tilde_value, all_made};
-ghost use Rattle.mt_parser_builder.specs.Roses.{made_by};
+ghost use Rattle.mt_parser_builder.specs.ParseTrees.{made_by};
 ghost use Rattle.mt_parser_builder.specs.State.{found_of};
 ghost use Rattle.mt_parser_builder.specs.Found.{next_tilde};
 
 use crate::fault::Fault;
 use crate::found::{Found, nothing_after};
 use crate::kinds::{expr_kind, piece, stmt_kind};
+use crate::parse_tree::ParseTree;
 use crate::part::Part;
 use crate::parts::expr;
-use crate::rose::Rose;
 use crate::rows::row;
 use crate::tier::Tier;
 use crate::value::Value;
@@ -125,20 +125,20 @@ fn append<T: Drop>(list: &mut Vec<T>, more: &mut Vec<T>) -> Result<(), NoMemory>
     }
 }
 
-#[cycle(roses)]
+#[cycle(trees)]
 pub(crate) fn value(
     alloc: Global,
-    rose: &Rose,
+    tree: &ParseTree,
     tier: Tier,
     found: &mut Found,
 ) -> Result<Value, Fault>
-    ensures { GivesWith result (found_of found.new) (made_by rose.now tier (found_of found.old)) }
+    ensures { GivesWith result (found_of found.new) (made_by tree.now tier (found_of found.old)) }
 {
-    match &rose.part {
+    match &tree.part {
         Part::Tilde(place, count) => {
             let number = found.next_tilde()?;
             let mut within = nothing_after(alloc, number + 1);
-            let body = values(alloc, &rose.children, Tier::Client, &mut within)?;
+            let body = values(alloc, &tree.children, Tier::Client, &mut within)?;
             tilde(
                 alloc,
                 *place,
@@ -150,25 +150,25 @@ pub(crate) fn value(
             )
         }
         part => {
-            let parts = values(alloc, &rose.children, part.tier_within(tier), found)?;
+            let parts = values(alloc, &tree.children, part.tier_within(tier), found)?;
             finish(alloc, part, tier, parts.into_iter(), found)
         }
     }
 }
 
-#[cycle(roses)]
+#[cycle(trees)]
 #[tactic(auto, using(crate::proofs::Walking::regroup))]
 pub(crate) fn values(
     alloc: Global,
-    roses: &Row<Rose>,
+    trees: &Row<ParseTree>,
     tier: Tier,
     found: &mut Found,
 ) -> Result<Vec<Value>, Fault>
-    ensures { GivesItems result (found_of found.new) (all_made (map made_by roses.now) tier (found_of found.old)) }
+    ensures { GivesItems result (found_of found.new) (all_made (map made_by trees.now) tier (found_of found.old)) }
 {
     let mut made = Vec::new(alloc);
-    for rose in roses.items() {
-        push(&mut made, value(alloc, rose, tier, found)?)?;
+    for tree in trees.items() {
+        push(&mut made, value(alloc, tree, tier, found)?)?;
     }
     Ok(made)
 }

@@ -3,7 +3,7 @@ use mt_tree::Row;
 
 // A node with the nodes in it, in text order.
 #[derive(Drop)]
-pub(crate) struct Rose {
+pub(crate) struct ParseTree {
     pub(crate) part: Part,
-    pub(crate) children: Row<Rose>,
+    pub(crate) children: Row<ParseTree>,
 }
