@@ -355,7 +355,7 @@ abbrev pub Keyed : Tokens → Tokens → Props → Place → List Level → Node
 Keyed ts rest ps p fs out =
     (s : Place) × (v : Bool) × (i : ℕ) × (props_count ps ≡ i + 1) × (run ts (at f.Word (f.ObjectKey p 0 ∷ fs) out) ≡ run rest (at (f.Value s v) (f.ObjectValue p i ∷ fs) (props_nodes ps out)))
 
--- what stands at the end of declarations, of which there are so many
+-- what stands at the end of a given number of declarations
 abbrev pub Declared : Tokens → Tokens → Declaration → Place → ℕ → ℕ → List Level → Nodes → Nodes → Type 0
 Declared ts rest d p c m fs out out' =
     (s : Next) × (run ts (at f.Word (f.DeclName d p c ∷ fs) out) ≡ run rest s)

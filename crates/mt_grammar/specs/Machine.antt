@@ -115,7 +115,7 @@ dollar_settled p (f.AttributeValue m a ∷ fs) out = at f.Word (f.Attributes m a
 dollar_settled p (f.Children m a c ∷ fs) out = at f.Word (f.Children m a (c + 1) ∷ fs) (out ++ n.ChildDollar ∷ [])
 dollar_settled p fs out = at (f.Value p false) fs (out ++ n.Dollar p ∷ [])
 
--- a function with so many parameters and statements is finished
+-- a function with that number of parameters and of statements is finished
 abbrev pub function_closed : Heading → Place → ℕ → ℕ → List Level → Nodes → Next
 function_closed heading.Service p m c fs out = at f.Finished fs (out ++ n.Declare p heading.Service m c ∷ [])
 function_closed heading.Declaration p m c fs out = at f.Finished fs (out ++ n.Declare p heading.Declaration m c ∷ [])
@@ -217,7 +217,7 @@ module _ (t : Token) where
   ended_by k.CloseBrace fs out = finished_by k.CloseBrace fs out
   ended_by _ fs out = None
 
-  -- after a declaration, of which there are so many
+  -- after the last of a given number of declarations
   abbrev pub declared_by : Terminal → Declaration → Place → ℕ → List Level → Nodes → Next
   declared_by k.Comma d p c fs out = at f.Word (f.DeclName d p c ∷ fs) out
   declared_by k.Semicolon declaration.ForStart p c fs out = at f.First (f.ForTest p ∷ fs) (out ++ n.StartVars c ∷ [])

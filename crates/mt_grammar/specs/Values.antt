@@ -21,7 +21,7 @@ pub data Value : Type 0 where
 abbrev pub Values : Type 0
 Values = List Value
 
--- the last values, so many, the last one on top
+-- the last values of a given number, the last one on top
 
 abbrev pub take_exprs : ℕ → Values → Option (Exprs × Values)
 take_exprs zero vs = Some (no_exprs, vs)

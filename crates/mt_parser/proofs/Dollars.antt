@@ -19,7 +19,7 @@ abbrev FitsTier : Tier → ℕ → Type 0
 FitsTier tier.Client more = Unit {0}
 FitsTier tier.Server more = more ≡ 0
 
--- from s to t so many dollars were found, and these are their numbers
+-- the numbers of the dollars that were found from s to t
 record Counted (k : Tier) (s : Found) (numbers : List ℕ) (t : Found) : Type 0 where
   more : ℕ
   size : length t.dollars ≡ length s.dollars + more

@@ -29,7 +29,7 @@ few_tokens source s d = (by_reading source (Ok s) s d refl).0
 pub same_source : (source : List ℕ) (s : Spelled) → Reads source (Ok s) → s.source ≡ source
 same_source source s d = (by_reading source (Ok s) s d refl).1
 
--- so many are the tokens of the code
+-- the number of tokens of the code is bounded
 pub few_list : (ts : List CodeToken) (s : Spelled) → tokens_of ts ≡ tokens_in s → Reads s.source (Ok s) → length ts ≤ 200000
 unfolding tokens_in
 few_list ts s same d =

@@ -37,8 +37,8 @@ pub record Made (fits : Bool) (s t : Found) : Type 0 where
   pub before : t.before ≡ s.before
   pub good : IsGood s → IsGood t
 
-pub told : {b : Bool} (s : Found) → b ≡ true → Made b s s
-told s h = record { fit = h; before = refl; good = λ g. g }
+pub unchanged : {b : Bool} (s : Found) → b ≡ true → Made b s s
+unchanged s h = record { fit = h; before = refl; good = λ g. g }
 
 pub both : {b c : Bool} {s t u : Found} → Made b s t → Made c t u → Made (b && c) s u
 both {b} {c} x y = record { fit = and_from b c x.fit y.fit; before = y.before ∙ x.before; good = λ g. y.good (x.good g) }

@@ -80,7 +80,7 @@ module _ {X : Type 0} (p : ProgramGathering X) where
     values = λ v x plain. refl;
   }
 
-  -- `Of r a m x`: the node r, whose tildes are numbered from a on and are so many, gives x
+  -- `Of r a m x`: the node r, whose tildes are numbered from a on and are m, gives x
   module _ (Of : ParseTree → ℕ → ℕ → X → Type 0) (Row : ParseTrees → ℕ → ℕ → X → Type 0) where
     pub record ProgramRules : Type 0 where
       pub nothing : (a : ℕ) → Row no_trees a 0 p.none

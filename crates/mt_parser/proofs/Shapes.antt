@@ -34,7 +34,7 @@ use Rattle.mt_parser_builder.specs.Found.{Found, next_tilde, within}
 use Rattle.mt_parser_builder.specs.Syntax as made
 use Rattle.mt_parser_builder.specs.Syntax.{mark_of}
 use Rattle.mt_parser_builder.specs.Program.{attribute_name, attribute_of, attributes_of, child_of, children_of, decl_made, decl_of, decls_of, expr_of, exprs_of, key_of, name_of_title, names_of, optional_of, prop_of, props_of, start_of, stmt_of, stmts_of, value_of}
-use Rattle.mt_parser.proofs.Finding.{Made, before_test, both, good_dollar, good_tilde, same, told, with_test}
+use Rattle.mt_parser.proofs.Finding.{Made, before_test, both, good_dollar, good_tilde, same, unchanged, with_test}
 use Rattle.mt_parser.proofs.Fits.{AttributeFits, AttributesFit, ChildFits, ChildrenFit, DeclFits, DeclaresBy, DeclsFit, ExprFits, ExprsFit, HaveValues, IsNamed, IsSomeDecl, NamesFit, OptionalFits, PropsFit, StartFits, StmtFits, StmtsFit, TagFits, TitleFits, has_child}
 use Rattle.mt_parser.proofs.Looks.{apart_look, block_look, direct_look, some_child, some_decl, statements_look, target_look, tilde_look, values_look}
 use Rattle.mt_parser.proofs.Parts.{all_also, all_fit_more, at_node, at_statement, decls_are, list_all_more}
@@ -69,10 +69,10 @@ statement : (p : Place) (layer : StmtKindLayer Tree) {s t : Found} → Made (stm
 statement p layer = same (ap (λ q. q.fits) (sym (at_statement p layer)))
 
 constant_made : (p : Place) (c : Constant) (s : Found) → Made (fits_expr (made.expr p (made.constant_kind c))) s s
-constant_made p constant_word.True s = node p (made.constant_kind constant_word.True) (told s refl)
-constant_made p constant_word.False s = node p (made.constant_kind constant_word.False) (told s refl)
-constant_made p constant_word.Null s = node p (made.constant_kind constant_word.Null) (told s refl)
-constant_made p constant_word.Undefined s = node p (made.constant_kind constant_word.Undefined) (told s refl)
+constant_made p constant_word.True s = node p (made.constant_kind constant_word.True) (unchanged s refl)
+constant_made p constant_word.False s = node p (made.constant_kind constant_word.False) (unchanged s refl)
+constant_made p constant_word.Null s = node p (made.constant_kind constant_word.Null) (unchanged s refl)
+constant_made p constant_word.Undefined s = node p (made.constant_kind constant_word.Undefined) (unchanged s refl)
 
 infix_made : (p : Place) (o : Infix) (a b : syntax_expr.Expr) {s t : Found} → Made (fits_expr a && fits_expr b) s t → Made (fits_expr (made.expr p (made.infix_kind o a b))) s t
 infix_made p infix_op.Or a b m = node p (made.infix_kind infix_op.Or a b) m
@@ -80,8 +80,8 @@ infix_made p infix_op.And a b m = node p (made.infix_kind infix_op.And a b) m
 infix_made p (infix_op.Binary o) a b m = node p (made.infix_kind (infix_op.Binary o) a b) m
 
 jump_made : (p : Place) (j : Jump) (s : Found) → Made (fits_stmt (made.stmt p (made.jump_kind j))) s s
-jump_made p jump_word.Break s = statement p (made.jump_kind jump_word.Break) (told s refl)
-jump_made p jump_word.Continue s = statement p (made.jump_kind jump_word.Continue) (told s refl)
+jump_made p jump_word.Break s = statement p (made.jump_kind jump_word.Break) (unchanged s refl)
+jump_made p jump_word.Continue s = statement p (made.jump_kind jump_word.Continue) (unchanged s refl)
 
 -- ---- functions
 
@@ -126,7 +126,7 @@ attribute_made : (m : syntax_mark.Mark) (v : MarkupValue) {s t : Found} → is_a
 attribute_made m v h x = same (ap (λ q. q.fits) (sym (at_markup_attribute shaping (record { name = m; value = v })))) (with_test h x)
 
 quoted_made : (cs : List ℕ) (s : Found) → all_scalars cs ≡ true → Made (on_markup_value shaping (made.quoted_value cs)).fits s s
-quoted_made cs s h = same (ap (λ q. q.fits) (sym (at_markup_value shaping (MarkupValue-F.Quoted cs)))) (told s h)
+quoted_made cs s h = same (ap (λ q. q.fits) (sym (at_markup_value shaping (MarkupValue-F.Quoted cs)))) (unchanged s h)
 
 tilde_value_made : (e : syntax_expr.Expr) {s t : Found} → is_tilde (on_expr shaping e).look ≡ true → Made (fits_expr e) s t → Made (on_markup_value shaping (made.tilde_value e)).fits s t
 tilde_value_made e h m = same (ap (λ q. q.fits) (sym (at_markup_value shaping (MarkupValue-F.MarkupValue::Tilde e)))) (with_test h m)
@@ -135,7 +135,7 @@ dollar_value_made : (e : syntax_expr.Expr) {s t : Found} → Made (fits_expr e) 
 dollar_value_made e = same (ap (λ q. q.fits) (sym (at_markup_value shaping (MarkupValue-F.MarkupValue::Dollar e))))
 
 text_child_made : (cs : List ℕ) (s : Found) → is_some_item cs ≡ true → all_scalars cs ≡ true → opens_none cs ≡ true → Made (on_markup_child shaping (made.text_child cs)).fits s s
-text_child_made cs s f g h = same (ap (λ q. q.fits) (sym (at_markup_child shaping (MarkupChild-F.MarkupChild::Text cs)))) (told s (and_from (is_some_item cs && all_scalars cs) (opens_none cs) (and_from (is_some_item cs) (all_scalars cs) f g) h))
+text_child_made cs s f g h = same (ap (λ q. q.fits) (sym (at_markup_child shaping (MarkupChild-F.MarkupChild::Text cs)))) (unchanged s (and_from (is_some_item cs && all_scalars cs) (opens_none cs) (and_from (is_some_item cs) (all_scalars cs) f g) h))
 
 direct_child_made : (e : syntax_expr.Expr) {s t : Found} → is_direct (on_expr shaping e).look ≡ true → Made (fits_expr e) s t → Made (on_markup_child shaping (made.direct_child e)).fits s t
 direct_child_made e h m = same (ap (λ q. q.fits) (sym (at_markup_child shaping (MarkupChild-F.Direct e)))) (with_test h m)
@@ -214,10 +214,10 @@ mutual
   unfolding expr_of
 
   expr_made : (e : Expr) → ExprFits e → (k : Tier) (s : Found) → Made (fits_expr (expr_of k e s).0) s (expr_of k e s).1
-  expr_made (name m) h k s = node m.place (ExprKind-F.Name (name_of m.text)) (told s h)
-  expr_made (number m) h k s = node m.place (ExprKind-F.Num (number_of m.text)) (told s (number_is m.text))
-  expr_made (text m) h k s = node m.place (ExprKind-F.ExprKind::Text (text_of m.text)) (told s (text_scalars m.text))
-  expr_made (property m) h k s = node m.place (ExprKind-F.ExprKind::Text (name_of m.text)) (told s (decoded_scalars m.text))
+  expr_made (name m) h k s = node m.place (ExprKind-F.Name (name_of m.text)) (unchanged s h)
+  expr_made (number m) h k s = node m.place (ExprKind-F.Num (number_of m.text)) (unchanged s (number_is m.text))
+  expr_made (text m) h k s = node m.place (ExprKind-F.ExprKind::Text (text_of m.text)) (unchanged s (text_scalars m.text))
+  expr_made (property m) h k s = node m.place (ExprKind-F.ExprKind::Text (name_of m.text)) (unchanged s (decoded_scalars m.text))
   expr_made (constant p c) h k s = constant_made p c s
   expr_made (array p es) h k s = node p (ExprKind-F.Arr (exprs_of k es s).0) (exprs_made es h k s)
   expr_made (object p ps) h k s =
@@ -247,12 +247,12 @@ mutual
       markup_made m.place (name_of m.text) a.0 (children_of k cs a.1).0 h.0.is_tag (attributes_made ats h.1 k s) (children_made cs h.2 k a.1) (apart_look cs h.3 k a.1) (void_fits m cs k a.1 h.0 h.4)
 
   exprs_made : (es : Exprs) → ExprsFit es → (k : Tier) (s : Found) → Made (all_fit (map (on_expr shaping) (exprs_of k es s).0)) s (exprs_of k es s).1
-  exprs_made no_exprs h k s = told s refl
+  exprs_made no_exprs h k s = unchanged s refl
   exprs_made (exprs_and es e) h k s =
       let r = exprs_of k es s in same (sym (all_fit_more (on_expr shaping) r.0 (expr_of k e r.1).0)) (both (exprs_made es h.0 k s) (expr_made e h.1 k r.1))
 
   props_made : (ps : Props) → PropsFit ps → (k : Tier) (s : Found) → Made (all_fit (map in_prop (props_of k ps s).0)) s (props_of k ps s).1
-  props_made no_props h k s = told s refl
+  props_made no_props h k s = unchanged s refl
   props_made (props_and ps key e) h k s =
       let r = props_of k ps s in let x = expr_of k e r.1 in
       same (sym (all_fit_more in_prop r.0 (key, x.0))) (both (props_made ps h.0 k s) (prop_made key x.0 (expr_made e h.1 k r.1)))
@@ -266,7 +266,7 @@ mutual
       let x = expr_of tier.Server e s in attribute_made (mark_of m) (made.dollar_value x.0) h.0 (dollar_value_made x.0 (expr_made e h.1 tier.Server s))
 
   attributes_made : (ats : Attributes) → AttributesFit ats → (k : Tier) (s : Found) → Made (all_fit (map in_attribute (attributes_of k ats s).0)) s (attributes_of k ats s).1
-  attributes_made no_attributes h k s = told s refl
+  attributes_made no_attributes h k s = unchanged s refl
   attributes_made (attributes_and ats a) h k s =
       let r = attributes_of k ats s in
       same (sym (all_fit_more in_attribute r.0 (attribute_name a, (value_of k a r.1).0))) (both (attributes_made ats h.0 k s) (attribute_made_of a h.1 k r.1))
@@ -277,21 +277,21 @@ mutual
   child_made (child_dollar e) h k s = dollar_child_made (expr_of tier.Server e s).0 (expr_made e h tier.Server s)
 
   children_made : (cs : Children) → ChildrenFit cs → (k : Tier) (s : Found) → Made (all_fit (map (on_markup_child shaping) (children_of k cs s).0)) s (children_of k cs s).1
-  children_made no_children h k s = told s refl
+  children_made no_children h k s = unchanged s refl
   children_made (children_and cs c) h k s =
       let r = children_of k cs s in same (sym (all_fit_more (on_markup_child shaping) r.0 (child_of k c r.1).0)) (both (children_made cs h.0 k s) (child_made c h.1 k r.1))
 
   decl_made_of : (d : Decl) → DeclFits d → (k : Tier) (s : Found) → Made (in_decl (decl_of k d s).0).fits s (decl_of k d s).1
-  decl_made_of (decl_only m) h k s = decl_made_is m None h (told s refl)
+  decl_made_of (decl_only m) h k s = decl_made_is m None h (unchanged s refl)
   decl_made_of (decl_as m e) h k s = decl_made_is m (Some (expr_of k e s).0) h.0 (expr_made e h.1 k s)
 
   decls_made_of : (ds : Decls) → DeclsFit ds → (k : Tier) (s : Found) → Made (all_fit (map in_decl (decls_of k ds s).0)) s (decls_of k ds s).1
-  decls_made_of no_decls h k s = told s refl
+  decls_made_of no_decls h k s = unchanged s refl
   decls_made_of (decls_and ds d) h k s =
       let r = decls_of k ds s in same (sym (all_fit_more in_decl r.0 (decl_of k d r.1).0)) (both (decls_made_of ds h.0 k s) (decl_made_of d h.1 k r.1))
 
   optional_made : (o : Optional) → OptionalFits o → (k : Tier) (s : Found) → Made (fits_optional (optional_of k o s).0) s (optional_of k o s).1
-  optional_made absent h k s = told s refl
+  optional_made absent h k s = unchanged s refl
   optional_made (present e) h k s = expr_made e h k s
 
   start_made_of : (a : Start) → StartFits a → (k : Tier) (s : Found) → Made (on_for_start shaping (start_of k a s).0).fits s (start_of k a s).1
@@ -324,9 +324,9 @@ mutual
   stmt_made (block p ss) h k s =
       let m = stmts_made ss h.1 k s in
       statement p (StmtKind-F.Block (stmts_of k ss s).0) (record { fit = all_statements (stmts_of k ss s).0 (statements_look ss h.0 k s) m.fit; before = m.before; good = m.good })
-  stmt_made (empty p) h k s = statement p StmtKind-F.Empty (told s refl)
+  stmt_made (empty p) h k s = statement p StmtKind-F.Empty (unchanged s refl)
 
   pub stmts_made : (ss : Stmts) → StmtsFit ss → (k : Tier) (s : Found) → Made (all_fit (map (on_stmt shaping) (stmts_of k ss s).0)) s (stmts_of k ss s).1
-  stmts_made no_stmts h k s = told s refl
+  stmts_made no_stmts h k s = unchanged s refl
   stmts_made (stmts_and ss z) h k s =
       let r = stmts_of k ss s in same (sym (all_fit_more (on_stmt shaping) r.0 (stmt_of k z r.1).0)) (both (stmts_made ss h.0 k s) (stmt_made z h.1 k r.1))

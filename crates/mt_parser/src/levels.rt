@@ -3,7 +3,7 @@ ghost use Rattle.mt_parser.specs.Levels.{levels_of, first_level, later_levels, I
 
 use std::alloc::{AllocError, Global};
 
-// A tree at one level, and so many more.
+// A tree at one level, and `more` others at it.
 #[derive(Clone, Copy)]
 pub(crate) struct Run {
     pub(crate) level: u32,

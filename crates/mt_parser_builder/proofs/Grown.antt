@@ -8,7 +8,7 @@ use Rattle.mt_grammar.specs.Depth.{titles, inside}
 
 -- ---- growing on a row, the last tree outermost
 
--- the row without its last trees, and these, so many
+-- the row without a given number of its last trees, and these
 abbrev pub take_trees : ℕ → ParseTrees → Option (ParseTrees × ParseTrees)
 take_trees zero rs = Some (rs, no_trees)
 take_trees (suc i) no_trees = None

@@ -37,7 +37,7 @@ abbrev mutual
 abbrev pub bound : ℕ
 bound = 0xFFFF_FFFF
 
--- how far the numbers are at most where so many nodes were read
+-- how far the numbers are at most where w nodes were read
 pub record IsNear (w : ℕ) (s u : Found) : Type 0 where
   pub before : u.before ≡ s.before
   pub tildes : length u.tildes ≤ length s.tildes + w

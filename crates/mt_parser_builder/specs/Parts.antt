@@ -75,7 +75,7 @@ key_first _ = None
 abbrev pub prop_first : Values → Option (Prop × Values)
 prop_first vs = on_both (key_first vs) (λ key us. on_both (expr_first us) (λ e ws. Some (made.prop key e, ws)))
 
--- ---- so many of one kind
+-- ---- a given number of one kind
 
 abbrev pub firsts : {X : Type 0} → (Values → Option (X × Values)) → ℕ → Values → Option (List X × Values)
 firsts f zero vs = Some ([], vs)

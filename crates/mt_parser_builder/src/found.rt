@@ -45,7 +45,7 @@ impl Found {
     }
 }
 
-// Nothing was found yet behind so many tildes.
+// Nothing was found yet behind `before` tildes.
 pub(crate) fn nothing_after(alloc: Global, before: u32) -> Found
     ensures { found_of result ≡ record { before = before; tildes = []; dollars = [] } }
 {

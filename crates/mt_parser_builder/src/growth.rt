@@ -12,7 +12,7 @@ use mt_parser_marks::Node;
 use mt_tree::{NoMemory, Row, push};
 use std::alloc::Global;
 
-// The last trees, so many; the others stay.
+// The trees behind the first `kept` ones, which stay.
 fn split(trees: &mut Vec<ParseTree>, kept: usize) -> Result<Vec<ParseTree>, NoMemory>
     requires { kept ≤ length trees.old.items }
     ensures kept { OnOk result (trees.new.items ≡ take kept trees.old.items) }

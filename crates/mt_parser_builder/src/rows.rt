@@ -78,7 +78,7 @@ impl Item for MarkupChild {
     }
 }
 
-// So many items from the front.
+// `count` items from the front.
 pub(crate) fn row<T: Item>(
     alloc: Global,
     count: usize,

@@ -1,4 +1,4 @@
--- What a token does behind an expression where it is none of those that are told apart.
+-- What a token does behind an expression where it is none of those that have a case of their own.
 use Rattle.std.proofs.Common.{◌≡◌, ℕ, Bool, List, Option, refl}
 use Rattle.mt_tree.specs.declared.place.Place.{Place}
 use Rattle.mt_tree.specs.declared.operators.Binary.{Binary}

@@ -18,7 +18,7 @@ use mt_parser_marks::{Mark, Node, Token};
 use mt_tree::tag_void;
 
 impl<'a> Machine<'a> {
-    // In a tag with so many attributes; the flag says whether a `=` may follow.
+    // In a tag with `count` attributes; the flag says whether a `=` may follow.
     fn attribute(&mut self, token: Token<'a>, tag: Mark<'a>, count: usize, named: bool) -> Step
         requires { count + counted self.old.stack ≤ 1000000 }
         ensures { Steps result (spec.word_by (token_of token.entry) (f.Attributes (mark_of tag.entry) count named) token.entry.terminal self.old.stack self.old.nodes) self.new }
@@ -76,7 +76,7 @@ impl<'a> Machine<'a> {
         }
     }
 
-    // Behind so many children of an element with so many attributes.
+    // Behind `count` children of an element with `attributes` attributes.
     fn child(&mut self, token: Token<'a>, tag: Mark<'a>, attributes: usize, count: usize) -> Step
         requires { attributes + count + counted self.old.stack ≤ 1000000 }
         ensures { Steps result (spec.word_by (token_of token.entry) (f.Children (mark_of tag.entry) attributes count) token.entry.terminal self.old.stack self.old.nodes) self.new }

@@ -17,7 +17,7 @@ use std::alloc::AllocError;
 impl<'a> Machine<'a> {
     /// Reads one token.
     pub fn feed(&mut self, token: Token<'a>, focus: Focus) -> Step
-        requires told { token.terminal ≡ terminal (token_of token) }
+        requires classified { token.terminal ≡ terminal (token_of token) }
         requires few { counted self.old.stack ≤ 1000000 }
         ensures { Steps result (spec.feed_by (token_of token.entry) (focus_of focus) self.old.stack self.old.nodes) self.new }
     {

@@ -75,7 +75,7 @@ impl<'a> Machine<'a> {
         }
     }
 
-    /// Behind a declaration, of which there are so many.
+    /// Behind the last of `count` declarations.
     pub fn declared(
         &mut self,
         token: Token<'a>,

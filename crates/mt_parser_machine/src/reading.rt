@@ -19,7 +19,7 @@ use std::alloc::Global;
 /// with the number of all tokens where a program can't end there. `NoMemory` comes where memory runs out, and nothing
 /// else is answered.
 pub fn read<'a>(alloc: Global, tokens: &[Token<'a>]) -> Result<Vec<Node<'a>>, ReadRefusal>
-    requires told { All (λ t. t.terminal ≡ terminal (token_of t)) tokens.now }
+    requires classified { All (λ t. t.terminal ≡ terminal (token_of t)) tokens.now }
     requires few { length tokens.now ≤ 200000 }
     ensures read { IfOk result (λ nodes. parsed (tokens_of tokens.now) ≡ Some (nodes_of nodes.items)) }
     ensures refused { Refuses (tokens_of tokens.now) result }

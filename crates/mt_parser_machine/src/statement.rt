@@ -34,7 +34,7 @@ impl<'a> Machine<'a> {
         }
     }
 
-    // A function with so many parameters and statements is finished.
+    // A function with these numbers of parameters and of statements is finished.
     fn close_function(
         &mut self,
         heading: Heading,

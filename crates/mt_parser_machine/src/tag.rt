@@ -26,7 +26,7 @@ fn tag_bytes(bytes: &[u8]) -> &[u8]
     bytes
 }
 
-// The name behind a sign of so many bytes.
+// The name behind a sign of `sign` bytes.
 fn tag_name(text: &[u8], sign: usize) -> &[u8]
     ensures { result.now ≡ grammar_token.tag_bytes (drop sign text.now) }
 {

@@ -49,7 +49,7 @@ impl<'a> Machine<'a> {
 
     /// A token that the topmost level names.
     pub fn word(&mut self, token: Token<'a>) -> Step
-        requires told { token.terminal ≡ terminal (token_of token) }
+        requires classified { token.terminal ≡ terminal (token_of token) }
         requires few { counted self.old.stack ≤ 1000000 }
         ensures { Steps result (spec.word_step (token_of token.entry) self.old.stack self.old.nodes) self.new }
     {

@@ -6,7 +6,7 @@ use Rattle.std.proofs.lemmas.Bool.Decides.{nat_tests}
 use Rattle.mt_lexer.specs.Character.{Chars}
 use Rattle.mt_lexer.specs.Escape.{is_hex, hex_value, hex_more, is_high, is_low, is_character, digits, code_point, in_braces, second_unit, paired, pair_of, of_unit, unicode}
 
--- ---- so many digits spell a number below a power of 16
+-- ---- digits spell a number below the power of 16 of their number
 
 abbrev Below : ℕ → Option (ℕ × Chars) → Type 0
 Below n None = Unit {0}

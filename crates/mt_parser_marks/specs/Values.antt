@@ -25,7 +25,7 @@ number_of digits = pos (min (word.number_of digits) number_limit)
 abbrev pub inside : List ℕ → List ℕ
 inside cs = let rest = drop 1 cs in take (length rest - 1) rest
 
--- The characters that are read off a text one by one, at most so many: `next c cs` is the one that c spells with what follows it, and the rest.
+-- The characters that are read off a text one by one, at most a given number: `next c cs` is the one that c spells with what follows it, and the rest.
 abbrev pub spelled_within : ℕ → (ℕ → List ℕ → ℕ × List ℕ) → List ℕ → List ℕ
 spelled_within zero next cs = []
 spelled_within (suc n) next [] = []

@@ -64,7 +64,7 @@ fn in_braces(text: &str) -> Option<(u32, &str)>
     }
 }
 
-// A closing brace, or at most so many digits and then a closing brace.
+// A closing brace, or at most `count` digits and then a closing brace.
 fn code_point(count: u8, value: u32, text: &str) -> Option<(u32, &str)>
     ensures { as_read result ≡ spelling.code_point count value (unplaced (chars text.now)) }
 {
@@ -82,7 +82,7 @@ fn code_point(count: u8, value: u32, text: &str) -> Option<(u32, &str)>
     }
 }
 
-// So many digits.
+// `count` digits.
 fn digits(count: u8, value: u32, text: &str) -> Option<(u32, &str)>
     ensures { as_read result ≡ spelling.digits count value (unplaced (chars text.now)) }
 {

@@ -70,7 +70,7 @@ pub enum Node<'a> {
     Present,
     /// The front of a `for` is the optional expression before.
     StartOptional,
-    /// The front of a `for` is so many declarations.
+    /// The front of a `for` is that number of declarations.
     StartVars(usize),
     /// A statement that is an expression.
     Expression(Place),

@@ -1,4 +1,4 @@
--- Where each text of a spelled tree has at most so many bytes, each text of its program has at most so many units of UTF-16.
+-- Where each text of a spelled tree has at most a number of bytes, each text of its program has at most as many units of UTF-16.
 use Rattle.std.proofs.Common.{ℕ, ◌≤◌, List, map, Option}
 use Rattle.std.proofs.Math.Nat.{max-le}
 use Rattle.mt_syntax.specs.Depth.{greatest}

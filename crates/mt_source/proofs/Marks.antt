@@ -20,7 +20,7 @@ module _ (limit : ℕ) where
   ShortNames no_names = Unit {0}
   ShortNames (names_and ns m) = ShortNames ns × ShortMark m
 
-  -- each text of the tree has at most so many bytes; a number has no text
+  -- the length of each text of the tree is bounded, in bytes; a number has no text
   abbrev mutual
     pub ShortExpr : Expr → Type 0
     ShortExpr (name m) = ShortMark m
