@@ -25,7 +25,8 @@ use Rattle.mt_ops.specs.declared.error.ErrorKind.{ErrorKind}
 use Rattle.mt_tree.specs.declared.fault.NoMemory.{NoMemory}
 use Rattle.mt_value.proofs.Laws.{cell_kept, keeps_added, lawful_added}
 use Rattle.mt_value.specs.Lawful.{Kind, kind_of, Names, Keeps, Lawful, LawfulCell, LawfulItems, LawfulProperties, LawfulValue}
-use Rattle.mt_value.specs.Limits.{in_range, text_fits}
+use Rattle.mt_syntax.specs.Data.{is_in_range}
+use Rattle.mt_value.specs.Limits.{text_fits}
 use Rattle.mt_value.specs.declared.cell.Cell.{Cell}
 use Rattle.mt_value.specs.declared.cell.Cell.TheVariants as cell
 use Rattle.mt_value.specs.declared.cell.Property.{Property}
@@ -79,9 +80,9 @@ text_lawful store (value.Text text) h = h
 text_lawful store _ h = tt
 
 within_lawful : (store : List Cell) (n : ℤ) → LawfulMade store (number_made (or_refused (codes "Number") (within n)))
-within_lawful store n = by (in_range n) refl
+within_lawful store n = by (is_in_range n) refl
   where
-    by : (b : Bool) → in_range n ≡ b → LawfulMade store (number_made (or_refused (codes "Number") (if b then Some n else None)))
+    by : (b : Bool) → is_in_range n ≡ b → LawfulMade store (number_made (or_refused (codes "Number") (if b then Some n else None)))
     by true t = t
     by false f = tt
 

@@ -8,7 +8,7 @@ use Rattle.mt_builtins.specs.Builtins.{units_made, text_cost}
 use Rattle.mt_ops.specs.Texts.{join_text}
 use Rattle.mt_tree.specs.Text.{units_in, units_of}
 use Rattle.mt_value.specs.Lawful.{LawfulValue}
-use Rattle.mt_value.specs.Limits.{in_range}
+use Rattle.mt_syntax.specs.Data.{is_in_range}
 use Rattle.mt_value.specs.declared.cell.Cell.{Cell}
 use Rattle.mt_value.specs.declared.value.Value.{Value}
 use Rattle.mt_value.specs.declared.value.Value.TheVariants as value
@@ -21,16 +21,16 @@ units_of-le : (cs : List ℕ) → units_of cs ≤ 2 * length cs
 units_of-le [] = omega arith
 units_of-le (c ∷ cs) = omega (arith, units_of-le cs, units_in-le c)
 
-small : (n : ℤ) → IsTrue (in_range n) → mag n < 2 ^ 53
+small : (n : ℤ) → IsTrue (is_in_range n) → mag n < 2 ^ 53
 small (pos n) h = grind (arith, nat_tests)
 small (negsuc n) h = grind (arith, nat_tests)
 
-pub units_of_number : (n : ℤ) → IsTrue (in_range n) → units_of (signed_decimal n) ≤ 34
+pub units_of_number : (n : ℤ) → IsTrue (is_in_range n) → units_of (signed_decimal n) ≤ 34
 units_of_number n h =
     let most = small n h in
     omega (arith, units_of-le (signed_decimal n), length_signed_le 16 n (omega arith) (omega arith))
 
-few_digits : (n : ℤ) → IsTrue (in_range n) → units_of (signed_decimal n) / 256 ≡ 0
+few_digits : (n : ℤ) → IsTrue (is_in_range n) → units_of (signed_decimal n) / 256 ≡ 0
 few_digits n h = omega (arith, units_of_number n h)
 
 pub costs_nothing : (store : List Cell) (v : Value) → LawfulValue store v → text_cost v ≡ 0

@@ -13,7 +13,8 @@ use Rattle.mt_syntax.specs.declared.tree.ExprKind.TheOpen.{ExprKind-F, MarkupChi
 use Rattle.mt_syntax.specs.declared.tree.Function.{Function}
 use Rattle.mt_syntax.specs.declared.tree.Stmt.{Stmt}
 use Rattle.mt_tree.specs.declared.data.Data.{Data}
-use Rattle.mt_value.specs.Limits.{data_fits, in_range, text_fits}
+use Rattle.mt_syntax.specs.Data.{is_in_range}
+use Rattle.mt_value.specs.Limits.{data_fits, text_fits}
 
 -- what is tested of a part
 pub record Tested : Type 0 where
@@ -42,7 +43,7 @@ value_fits d = data_fits d && nat_lt (nodes_of_data d) (2 ^ 53)
 module _ (element : List ℕ → List (List ℕ) → ℕ → Bool) (tilde : ℕ → Bool) where
   abbrev pub tested_expr_kind : ExprKindLayer (Every Tested) → Tested
   tested_expr_kind (ExprKind-F.Name text) = record { fits = text_fits text; target = true; name = [] }
-  tested_expr_kind (ExprKind-F.Num n) = tested (in_range n)
+  tested_expr_kind (ExprKind-F.Num n) = tested (is_in_range n)
   tested_expr_kind (ExprKind-F.ExprKind::Text text) = tested (text_fits text)
   tested_expr_kind (ExprKind-F.Fun f) = tested f.fits
   tested_expr_kind (ExprKind-F.Unary op a) = tested a.fits

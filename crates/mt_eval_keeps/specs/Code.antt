@@ -16,7 +16,8 @@ use Rattle.mt_eval_meaning.specs.declared.stmt.ForStart.TheVariants as start
 use Rattle.mt_eval_meaning.specs.declared.stmt.Stmt.{Stmt, out-Stmt}
 use Rattle.mt_eval_meaning.specs.declared.stmt.Stmt.TheOpen.{Stmt-F}
 use Rattle.mt_syntax.specs.DataLimits.{nodes_of_data}
-use Rattle.mt_value.specs.Limits.{in_range, text_fits, data_fits}
+use Rattle.mt_syntax.specs.Data.{is_in_range}
+use Rattle.mt_value.specs.Limits.{text_fits, data_fits}
 
 -- what is said of the parts of a node
 pub record Said : Type 1 where
@@ -45,7 +46,7 @@ module _ (allowed : List ℕ → List (List ℕ) → ℕ → Type 0) (tildes : �
 
     abbrev pub ExprFits : ExprLayer → Type 0
     ExprFits (Expr-F.Name n) = IsTrue (text_fits n.text)
-    ExprFits (Expr-F.Num n) = IsTrue (in_range n)
+    ExprFits (Expr-F.Num n) = IsTrue (is_in_range n)
     ExprFits (Expr-F.Expr::Text text) = IsTrue (text_fits text)
     ExprFits (Expr-F.Bool b) = Unit {0}
     ExprFits Expr-F.Null = Unit {0}

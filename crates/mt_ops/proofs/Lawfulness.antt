@@ -24,7 +24,8 @@ use Rattle.mt_tree.specs.declared.operators.Unary.TheVariants as unary
 use Rattle.mt_tree.specs.declared.fault.NoMemory.{NoMemory}
 use Rattle.mt_value.proofs.Laws.{keeps_added, lawful_added}
 use Rattle.mt_value.specs.Lawful.{Kind, Names, LawfulValue, LawfulCell, Lawful}
-use Rattle.mt_value.specs.Limits.{in_range, text_fits}
+use Rattle.mt_syntax.specs.Data.{is_in_range}
+use Rattle.mt_value.specs.Limits.{text_fits}
 use Rattle.mt_value.specs.declared.cell.Cell.{Cell}
 use Rattle.mt_value.specs.declared.cell.Property.{Property}
 use Rattle.mt_value.specs.declared.value.Native.{Native}
@@ -158,13 +159,13 @@ answer_lawful (Err e) meant old new is h lawful = tt
 -- ---- operators
 
 abbrev InRange : Result ℤ ErrorKind → Type 0
-InRange (Ok n) = IsTrue (in_range n)
+InRange (Ok n) = IsTrue (is_in_range n)
 InRange (Err e) = Unit {0}
 
 within_range : (n : ℤ) → InRange (within n)
-within_range n = by (in_range n) refl
+within_range n = by (is_in_range n) refl
   where
-    by : (b : Bool) → in_range n ≡ b → InRange (if b then Ok n else Err error.NumberOutOfRange)
+    by : (b : Bool) → is_in_range n ≡ b → InRange (if b then Ok n else Err error.NumberOutOfRange)
     by true t = t
     by false f = tt
 

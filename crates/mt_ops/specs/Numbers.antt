@@ -2,11 +2,11 @@
 use Rattle.std.specs.Prelude.{ℤ, ◌+ℤ◌, ◌-ℤ◌, ◌*ℤ◌, ◌==◌, if◌then◌else◌, Result, Ok, Err, int_div, int_rem, unsigned_abs}
 use Rattle.mt_ops.specs.declared.error.ErrorKind.{ErrorKind}
 use Rattle.mt_ops.specs.declared.error.ErrorKind.TheVariants as error
-use Rattle.mt_value.specs.Limits.{in_range}
+use Rattle.mt_syntax.specs.Data.{is_in_range}
 
 -- the number, where it is in range
 abbrev pub within : ℤ → Result ℤ ErrorKind
-within n = if in_range n then Ok n else Err error.NumberOutOfRange
+within n = if is_in_range n then Ok n else Err error.NumberOutOfRange
 
 abbrev pub sum : ℤ → ℤ → Result ℤ ErrorKind
 sum a b = within (a +ℤ b)

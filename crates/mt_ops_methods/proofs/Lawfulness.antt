@@ -27,7 +27,8 @@ use Rattle.mt_tree.proofs.Cuts.{cut_is_between, units_of-append}
 use Rattle.mt_tree.specs.Units.{cut, find}
 use Rattle.mt_value.proofs.Laws.{keeps_added, keeps_put, lawful_added, lawful_put, value_kept, values_kept}
 use Rattle.mt_value.specs.Lawful.{Kind, kind_of, Names, Keeps, LawfulValue, LawfulItems, LawfulCell, Lawful}
-use Rattle.mt_value.specs.Limits.{in_range, text_fits}
+use Rattle.mt_syntax.specs.Data.{is_in_range}
+use Rattle.mt_value.specs.Limits.{text_fits}
 use Rattle.mt_value.specs.declared.cell.Cell.{Cell}
 use Rattle.mt_value.specs.declared.cell.Cell.TheVariants as cell
 use Rattle.mt_value.specs.declared.value.Value.{Value}
@@ -43,7 +44,7 @@ meant_lawful (Err e) old new r is h = tt
 fits : (text : List ℕ) → IsTrue (text_fits text) → units_of text ≤ 2 ^ 20
 fits text h = grind (arith, nat_tests, h)
 
-few : (n : ℕ) → n ≤ 2 ^ 20 → IsTrue (in_range (pos n))
+few : (n : ℕ) → n ≤ 2 ^ 20 → IsTrue (is_in_range (pos n))
 few n h = grind (arith, nat_tests)
 
 part_fits : (t : List ℕ) (a b : ℕ) (part : List ℕ) → IsTrue (text_fits t) → cut t a b ≡ Some part → IsTrue (text_fits part)
@@ -54,7 +55,7 @@ part_fits t a b part h is =
     let small : units_of part ≤ 2 ^ 20 = omega (arith, whole, rest, fits t h) in
     grind (arith, nat_tests, small)
 
-place_fits : (t sought : List ℕ) (n : ℕ) → IsTrue (text_fits t) → find sought t ≡ Some n → IsTrue (in_range (pos n))
+place_fits : (t sought : List ℕ) (n : ℕ) → IsTrue (text_fits t) → find sought t ≡ Some n → IsTrue (is_in_range (pos n))
 place_fits t sought n h is =
     let there = ((find_is_first sought t n).0 is).0 in
     let whole = ap units_of there.2 ∙ units_of-append there.0 (sought ++ there.1) in
@@ -69,7 +70,7 @@ module _ (store : List Cell) where
       by (Some part) is = rw is (part_fits t p.0 p.1 part h is)
   part_lawful t (Err e) h = tt
 
-  number_lawful : (o : Option ℕ) → ((n : ℕ) → o ≡ Some n → IsTrue (in_range (pos n))) → LawfulValue store (place_number o)
+  number_lawful : (o : Option ℕ) → ((n : ℕ) → o ≡ Some n → IsTrue (is_in_range (pos n))) → LawfulValue store (place_number o)
   number_lawful None h = refl
   number_lawful (Some n) h = h n refl
 
@@ -98,7 +99,7 @@ given_lawful store arguments i h = by (slice_get arguments i) refl
     by None is = rw is tt
     by (Some v) is = rw is (all_at (LawfulValue store) arguments i v h is)
 
-below : (n : ℕ) → n < 2 ^ 53 → IsTrue (in_range (pos n))
+below : (n : ℕ) → n < 2 ^ 53 → IsTrue (is_in_range (pos n))
 below n h = grind (arith, nat_tests)
 
 abbrev LawfulPart : List Cell → Result (List Value) ErrorKind → Type 0

@@ -25,8 +25,9 @@ use Rattle.mt_tree.specs.Text.{units_of}
 use Rattle.mt_tree.specs.Units.{cut}
 use Rattle.mt_value.proofs.Laws.{keeps_put, cell_kept, lawful_put}
 use Rattle.mt_value.specs.Lawful.{Kind, kind_of, Names, Keeps, LawfulValue, LawfulProperties, LawfulItems, LawfulCell, Lawful}
-use Rattle.mt_value.specs.Limits.{in_range, text_fits}
-use Rattle.mt_value.specs.Names.{is_same, spells_whole, are_distinct, are_names}
+use Rattle.mt_syntax.specs.Data.{are_distinct, are_property_names, is_in_range, spells_whole_number}
+use Rattle.mt_value.specs.Limits.{text_fits}
+use Rattle.mt_value.specs.Names.{is_same}
 use Rattle.mt_value.specs.declared.cell.Cell.{Cell}
 use Rattle.mt_value.specs.declared.cell.Cell.TheVariants as cell
 use Rattle.mt_value.specs.declared.cell.Property.{Property}
@@ -51,7 +52,7 @@ module _ (store : List Cell) where
   item_lawful items (pos n) h = undefined_or (slice_get items n) (λ v is. at_place (LawfulValue store) items n v h is)
   item_lawful items (negsuc n) h = tt
 
-  count_lawful : (items : List Value) → length items < 2 ^ 53 → IsTrue (in_range (pos (length items)))
+  count_lawful : (items : List Value) → length items < 2 ^ 53 → IsTrue (is_in_range (pos (length items)))
   count_lawful items h = grind (arith, nat_tests)
 
   array_lawful : (items : List Value) (key : Value) → LawfulItems store items → LawfulAnswer store (array_property items key)
@@ -88,7 +89,7 @@ module _ (store : List Cell) where
   cell_at : (at : ℕ) → Lawful store → (c : Cell) → slice_get store at ≡ Some c → LawfulCell store c
   cell_at at lawful c is = at_place (LawfulCell store) store at c lawful.cells is
 
-  units_lawful : (text : List ℕ) → IsTrue (text_fits text) → IsTrue (in_range (pos (units_of text)))
+  units_lawful : (text : List ℕ) → IsTrue (text_fits text) → IsTrue (is_in_range (pos (units_of text)))
   units_lawful text h = grind (arith, nat_tests)
 
   one_fits : (part : List ℕ) → units_of part ≡ 1 → IsTrue (text_fits part)
@@ -198,13 +199,13 @@ module _ (name : List ℕ) where
       let apart = and_true (not (list_any (is_same n) ns)) (are_distinct ns) distinct in
       rw (list_any-append (is_same n) ns (name ∷ []), not_true (list_any (is_same n) ns) apart.0, is_other name n others.0, distinct_push ns others.1 apart.1) refl
 
-  names_push : (ns : List (List ℕ)) → list_any (is_same name) ns ≡ false → spells_whole name ≡ false → are_names ns ≡ true → are_names (ns ++ name ∷ []) ≡ true
+  names_push : (ns : List (List ℕ)) → list_any (is_same name) ns ≡ false → spells_whole_number name ≡ false → are_property_names ns ≡ true → are_property_names (ns ++ name ∷ []) ≡ true
   names_push ns none word are =
-      let both = and_true (are_distinct ns) (not (list_any spells_whole ns)) are in
-      rw (distinct_push ns none both.0, list_any-append spells_whole ns (name ∷ []), not_true (list_any spells_whole ns) both.1, word) refl
+      let both = and_true (are_distinct ns) (not (list_any spells_whole_number ns)) are in
+      rw (distinct_push ns none both.0, list_any-append spells_whole_number ns (name ∷ []), not_true (list_any spells_whole_number ns) both.1, word) refl
 
 module _ (store : List Cell) (name : List ℕ) (v : Value) where
-  with_lawful : (ps : List Property) → LawfulProperties store ps → IsTrue (text_fits name) → spells_whole name ≡ false → LawfulValue store v → length (with_property ps name v) < 2 ^ 53
+  with_lawful : (ps : List Property) → LawfulProperties store ps → IsTrue (text_fits name) → spells_whole_number name ≡ false → LawfulValue store v → length (with_property ps name v) < 2 ^ 53
       → LawfulProperties store (with_property ps name v)
   with_lawful ps h fits word lawful count = by (place_of name ps) refl count
     where
@@ -214,7 +215,7 @@ module _ (store : List Cell) (name : List ℕ) (v : Value) where
           record {
             values = All-set (λ p. LawfulValue store p.value) ps at p lawful h.values;
             texts = All-set (λ p. IsTrue (text_fits p.name)) ps at p fits h.texts;
-            names = ap are_names (map-set_same (λ p. p.name) ps at p p (named_there name ps p at is)) ∙ h.names;
+            names = ap are_property_names (map-set_same (λ p. p.name) ps at p p (named_there name ps p at is)) ∙ h.names;
             count = count;
           }
       by None is count =
@@ -222,18 +223,18 @@ module _ (store : List Cell) (name : List ℕ) (v : Value) where
           record {
             values = All-push (λ p. LawfulValue store p.value) ps p h.values lawful;
             texts = All-push (λ p. IsTrue (text_fits p.name)) ps p h.texts fits;
-            names = ap are_names (map-append (λ p. p.name) ps (p ∷ [])) ∙ names_push name (map (λ p. p.name) ps) (none_same name ps is) word h.names;
+            names = ap are_property_names (map-append (λ p. p.name) ps (p ∷ [])) ∙ names_push name (map (λ p. p.name) ps) (none_same name ps is) word h.names;
             count = count;
           }
 
 -- a key that is a name fits, and spells no whole number
-name_ok : (store : List Cell) (key : Value) (name : List ℕ) → name_of key ≡ Ok name → LawfulValue store key → IsTrue (text_fits name) × (spells_whole name ≡ false)
+name_ok : (store : List Cell) (key : Value) (name : List ℕ) → name_of key ≡ Ok name → LawfulValue store key → IsTrue (text_fits name) × (spells_whole_number name ≡ false)
 unfolding name_of
-name_ok store (value.Text text) name is h = by (spells_whole text) refl is
+name_ok store (value.Text text) name is h = by (spells_whole_number text) refl is
   where
-    by : (b : Bool) → spells_whole text ≡ b → (if b then bad_name (value.Text text) else Ok text) ≡ Ok name → IsTrue (text_fits name) × (spells_whole name ≡ false)
+    by : (b : Bool) → spells_whole_number text ≡ b → (if b then bad_name (value.Text text) else Ok text) ≡ Ok name → IsTrue (text_fits name) × (spells_whole_number name ≡ false)
     by true t is = absurd (cc)
-    by false f is = let e : text ≡ name = cc in (subst (λ n. IsTrue (text_fits n)) e h, subst (λ n. spells_whole n ≡ false) e f)
+    by false f is = let e : text ≡ name = cc in (subst (λ n. IsTrue (text_fits n)) e h, subst (λ n. spells_whole_number n ≡ false) e f)
 name_ok store _ name is h = absurd (cc)
 
 -- ---- writing a cell

@@ -11,7 +11,7 @@ use Rattle.mt_tree.specs.Text.{units_of}
 use Rattle.mt_value.specs.declared.value.Value.{Value}
 use Rattle.mt_value.specs.declared.value.Value.TheVariants as value
 
--- the steps for so many units
+-- the steps for that many units
 abbrev pub steps : ℕ → ℕ
 steps units = units / 256
 

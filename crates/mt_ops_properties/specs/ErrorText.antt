@@ -27,7 +27,7 @@ unfoldable pub thrown_text : List Cell → Value → List ℕ
 thrown_text store (value.Obj at) = text_or (error_of (slice_get store at)) (key_text (value.Obj at))
 thrown_text store v = key_text v
 
--- as many whole characters as UTF-8 writes in so many bytes
+-- as many whole characters as UTF-8 writes in that many bytes
 abbrev pub within_bytes : ℕ → List ℕ → List ℕ
 within_bytes room [] = []
 within_bytes room (c ∷ cs) = if nat_le (len_utf8 c) room then c ∷ within_bytes (room - len_utf8 c) cs else []

@@ -1,10 +1,11 @@
 -- The properties of objects, by name.
-use Rattle.std.specs.Prelude.{ℕ, suc, Bool, false, ◌&&◌, nat_le, List, [], ◌∷◌, ◌++◌, if◌then◌else◌, Option, None, Some, Result, Ok, Err, slice_get, slice_set}
+use Rattle.std.specs.Prelude.{ℕ, suc, ◌==◌, Bool, false, ◌&&◌, not, List, [], ◌∷◌, ◌++◌, if◌then◌else◌, Option, None, Some, Result, Ok, Err, slice_get, slice_set}
 use Rattle.std.specs.Option.{option_map}
 use Rattle.mt_ops.specs.declared.error.ErrorKind.{ErrorKind}
 use Rattle.mt_ops_properties.specs.Arrays.{or_undefined}
 use Rattle.mt_ops_properties.specs.Keys.{bad_name}
-use Rattle.mt_value.specs.Names.{is_same, spells_whole}
+use Rattle.mt_syntax.specs.Data.{is_digit, spells_whole_number}
+use Rattle.mt_value.specs.Names.{is_same}
 use Rattle.mt_value.specs.declared.cell.Property.{Property}
 use Rattle.mt_value.specs.declared.value.Value.{Value}
 use Rattle.mt_value.specs.declared.value.Value.TheVariants as value
@@ -12,11 +13,11 @@ use Rattle.mt_value.specs.declared.value.Value.TheVariants as value
 -- the first character is a digit from 1 to 9
 abbrev pub begins_from_one : List ℕ → Bool
 begins_from_one [] = false
-begins_from_one (c ∷ cs) = nat_le 49 c && nat_le c 57
+begins_from_one (c ∷ cs) = is_digit c && not (c == 48)
 
 -- a text that spells no whole number is a name, and no other key is
 unfoldable pub name_of : Value → Result (List ℕ) ErrorKind
-name_of (value.Text name) = if spells_whole name then bad_name (value.Text name) else Ok name
+name_of (value.Text name) = if spells_whole_number name then bad_name (value.Text name) else Ok name
 name_of key = bad_name key
 
 -- the place of the property of that name

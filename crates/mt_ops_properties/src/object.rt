@@ -4,7 +4,8 @@ ghost use Rattle.std.specs.Str.{chars};
 ghost use Rattle.mt_ops.specs.Errors.{Answers};
 ghost use Rattle.mt_ops_properties.specs.Changes.{Leaves};
 ghost use Rattle.mt_ops_properties.specs.Objects as spec;
-ghost use Rattle.mt_value.specs.Names as names;
+ghost use Rattle.mt_syntax.specs.Data as names;
+ghost use Rattle.mt_value.specs.Names.{is_same};
 
 use crate::array::MOST;
 use crate::key::bad_name;
@@ -34,20 +35,20 @@ fn begins_from_one(text: &str) -> bool
     ensures { result ≡ spec.begins_from_one (chars text.now) }
 {
     match text.chars().next() {
-        Some(c) => '1' <= c && c <= '9',
+        Some(c) => is_digit(c) && c != '0',
         None => false,
     }
 }
 
 fn is_zero(name: &Text) -> bool
-    ensures { result ≡ names.is_same name.now (codes "0") }
+    ensures { result ≡ is_same name.now (codes "0") }
 {
     name.is("0")
 }
 
 #[tactic(auto, using(crate::proofs::Names::spells_is))]
-fn spells_whole(name: &Text) -> bool
-    ensures { result ≡ names.spells_whole name.now }
+fn spells_whole_number(name: &Text) -> bool
+    ensures { result ≡ names.spells_whole_number name.now }
 {
     is_zero(name) || begins_from_one(name.as_str()) && are_digits(name.as_str())
 }
@@ -59,7 +60,7 @@ fn name_of(alloc: Global, key: &Value) -> Result<Text, Refusal>
 {
     match key {
         Value::Text(name) => {
-            if spells_whole(name) {
+            if spells_whole_number(name) {
                 Err(Refusal::Error(bad_name(alloc, key)?))
             } else {
                 Ok(name.share()?)
@@ -117,8 +118,7 @@ fn put(properties: &mut Buffer<Property>, property: Property) -> Result<(), NoMe
     }
 }
 
-/// Gives a property of an object its value by its key: one that is there keeps its place, and a new one goes last. Takes time linear
-/// in the properties.
+/// Gives a property of an object its value by its key: one that is there keeps its place, and a new one goes last.
 ///
 /// # Errors
 /// `BadPropertyName` exactly where the key is no text or spells a whole number; the properties are then as before. `NoMemory`, also

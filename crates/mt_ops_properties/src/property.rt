@@ -19,8 +19,7 @@ use std::alloc::Global;
 /// Reads the property of a value by its key. An array gives its items by number and its length, a text the text of one of
 /// its units of UTF-16 by number and its length in units, an object the values of its names; what isn't there is
 /// undefined. It throws `NoSuchProperty` at any other base or key, `BadPropertyName` at a key of an object that is no
-/// text or spells a whole number, and `CutInsideCharacter` at a unit that is half of a character. Takes time linear in the
-/// text, or in the properties of the object.
+/// text or spells a whole number, and `CutInsideCharacter` at a unit that is half of a character.
 ///
 /// # Errors
 /// `NoMemory`.
@@ -62,7 +61,7 @@ fn cell_property(alloc: Global, cell: Option<&Cell>, key: &Value) -> Result<Valu
 /// its index, or appended by the length; a property that is there keeps its place, and a new one goes last. It throws
 /// `NoSuchProperty` at any other base or key, `IndexOutOfRange` at any other index, and `BadPropertyName` at a key of an
 /// object that is no text or spells a whole number. Of the store only the cell that the base names changes, and at an
-/// error none. Takes time linear in the properties of the object.
+/// error none.
 ///
 /// # Errors
 /// `NoMemory`, also where an array or an object would pass 2^53 - 1 items or properties.

@@ -1,37 +1,19 @@
 -- What is found in bytes, is small enough and is written as they are is the code that is read from them.
-use Rattle.std.proofs.Common.{◌≡◌, ℕ, true, List, [], ◌∷◌, map, Option, Some, None, refl, sym, ap, ◌∙◌, subst as put}
-use Rattle.std.specs.List.{list_all}
-use Rattle.std.proofs.lemmas.Bool.{and_from, and_parts}
+use Rattle.std.proofs.Common.{◌≡◌, ℕ, List, [], map, Option, Some, None, sym, ap, ◌∙◌, subst as put}
 use Rattle.mt_tree.specs.declared.data.Data.{Data}
 use Rattle.mt_syntax.specs.CodeText.{code_text}
-use Rattle.mt_syntax.specs.Data.{is_data}
 use Rattle.mt_syntax.specs.DataLimits.{AreWithinLimits}
-use Rattle.mt_syntax.specs.DataText.{arguments_text}
 use Rattle.mt_syntax.specs.Fold.{on_stmt}
-use Rattle.mt_syntax.specs.Numbering.{values_of}
 use Rattle.mt_syntax.specs.declared.tree.Stmt.{Stmt}
 use Rattle.mt_stage_placement.specs.Placement.{misplaced_jumps}
 use Rattle.mt_stage_declared.specs.Twice.{twice_in_client}
 use Rattle.mt_stage.specs.CodeLimits.{IsCodeWithinLimits}
-use Rattle.mt_json.proofs.Arguments.{one_list_text}
-use Rattle.mt_script_words.specs.Values.{is_within}
-use Rattle.mt_script_words.proofs.ValueTexts.{within}
 use Rattle.mt_script_tree.specs.Reading.{stmts_at}
 use Rattle.mt_script_read.proofs.FoundStatements.{found_code_is_readable}
 use Rattle.mt_script_read.specs.Reads.{Reads}
 use Rattle.mt_script_read.specs.Walking.{all_walks, walking}
 use Rattle.mt_script_read.proofs.Exact.{none_found, only_found}
 use Rattle.mt_script_read.proofs.Walked.{too_deep, walked_depth, walked_values}
-
-all_data : (ds : List Data) → list_all is_within ds ≡ true → list_all is_data ds ≡ true
-all_data [] h = refl
-all_data (d ∷ ds) h =
-    let parts = and_parts (is_within d) (list_all is_within ds) h in
-    and_from (is_data d) (list_all is_data ds) (within d parts.0).data (all_data ds parts.1)
-
--- data are within the limits where those are that have the same text
-pub same_list_is_within : (ds es : List Data) → list_all is_data es ≡ true → AreWithinLimits ds → arguments_text ds ≡ arguments_text es → AreWithinLimits es
-same_list_is_within ds es all small same = put AreWithinLimits (one_list_text ds es small.data all same) small
 
 -- a walk, said of what was walked and from nothing on
 pub walk_of : (rows found : List Stmt) (start : List Data) (outcome : Option (List Data)) → rows ≡ found → start ≡ [] → all_walks (map (on_stmt walking) rows) 60 start ≡ outcome
@@ -48,11 +30,6 @@ walk_to rows found start total met same empty is walk = walk_of rows found start
 module _ (bytes : List ℕ) (found : List Stmt) (is : stmts_at 60 bytes ≡ Some found) where
   abbrev Walks : Option (List Data) → Type 0
   Walks outcome = all_walks (map (on_stmt walking) found) 60 [] ≡ outcome
-
-  -- the values of what is found are data
-  pub data_met : (met : List Data) → Walks (Some met) → list_all is_data met ≡ true
-  data_met met walk =
-      put (λ ds. list_all is_data ds ≡ true) (sym (walked_values found 60 met walk)) (all_data (values_of found) (found_code_is_readable 60 bytes found is).values)
 
   -- any code that is read from the bytes is what is found
   pub read_is_found : (body : List Stmt) → Reads bytes body → body ≡ found

@@ -1,17 +1,14 @@
 -- Reading code is a function of the bytes: what it finds is code within the limits that has this text, and such code is found.
-use Rattle.std.proofs.Common.{◌≡◌, ℕ, Bool, true, false, ◌&&◌, List, [], ◌∷◌, map, sum, Option, Some, None, refl, sym, ap, ◌∙◌, subst}
+use Rattle.std.proofs.Common.{◌≡◌, ℕ, Bool, true, false, ◌&&◌, List, [], ◌∷◌, map, Option, Some, None, refl, sym, ap, ◌∙◌, subst}
 use Rattle.std.specs.Prelude.{nat_le, if◌then◌else◌}
-use Rattle.std.specs.List.{list_all}
 use Rattle.std.specs.Str.{bytes_eq}
 use Rattle.std.proofs.lemmas.Bool.{and_from, and_parts, le-leb, leb-true}
 use Rattle.std.proofs.lemmas.Slice.Eq.{bytes_eq-Decides}
 use Rattle.mt_tree.specs.declared.data.Data.{Data}
-use Rattle.mt_tree.specs.Limits.{data_byte_limit, data_depth_limit, data_node_limit, depth_limit, text_limit}
+use Rattle.mt_tree.specs.Limits.{depth_limit, text_limit}
 use Rattle.mt_syntax.specs.CodeText.{code_text}
 use Rattle.mt_syntax.specs.Codes.{IsCode, is_filled, is_plain, stands_nowhere}
-use Rattle.mt_syntax.specs.Data.{is_data}
-use Rattle.mt_syntax.specs.DataLimits.{AreWithinLimits, bytes_of_data, depth_of_data, nodes_of_data}
-use Rattle.mt_syntax.specs.Depth.{depth_of, greatest}
+use Rattle.mt_syntax.specs.Depth.{depth_of}
 use Rattle.mt_syntax.specs.Fold.{on_stmt}
 use Rattle.mt_syntax.specs.Numbering.{values_of}
 use Rattle.mt_syntax.specs.Shape.{is_shaped}
@@ -20,12 +17,14 @@ use Rattle.mt_syntax.specs.declared.tree.Stmt.{Stmt}
 use Rattle.mt_stage_placement.specs.Placement.{misplaced_jumps}
 use Rattle.mt_stage_declared.specs.Twice.{twice_in_client}
 use Rattle.mt_stage.specs.CodeLimits.{IsCodeWithinLimits}
+use Rattle.mt_json.specs.DataAt.{are_within}
 use Rattle.mt_json.specs.Reading.{◌>>=◌}
+use Rattle.mt_json.proofs.DataAt.{are_within_by, within_are}
 use Rattle.mt_script_words.specs.Outcome.{Refuses}
 use Rattle.mt_script_words.specs.declared.refusal.CodeRefusal.{CodeRefusal}
 use Rattle.mt_script_words.specs.declared.refusal.CodeRefusal.TheVariants as refusal
 use Rattle.mt_script_tree.specs.Reading.{stmts_at}
-use Rattle.mt_script_read.specs.CodeAt.{are_data_within_limits, code_at, is_code, is_code_within_limits, is_empty, spelled_by}
+use Rattle.mt_script_read.specs.CodeAt.{code_at, is_code, is_code_within_limits, is_empty, spelled_by}
 use Rattle.mt_script_read.specs.Reads.{Reads}
 use Rattle.mt_script_read.specs.Walking.{all_walks, walking}
 use Rattle.mt_script_read.proofs.Accepted.{found_is_not_too_deep, walk_of}
@@ -36,22 +35,6 @@ use Rattle.mt_script_read.proofs.Exact.{found_is}
 empty : {A : Type 0} (xs : List A) → is_empty xs ≡ true → xs ≡ []
 empty [] e = refl
 empty (x ∷ xs) e = absurd cc
-
-pub data_are_within : (ds : List Data) → AreWithinLimits ds → are_data_within_limits ds ≡ true
-data_are_within ds w =
-    and_from (list_all is_data ds) _ w.data
-    (and_from (nat_le (greatest (map depth_of_data ds)) data_depth_limit) _ (le-leb _ _ w.depth)
-    (and_from (nat_le (sum (map nodes_of_data ds)) data_node_limit) _ (le-leb _ _ w.nodes) (le-leb _ _ w.bytes)))
-
-pub within_of_data : (ds : List Data) → are_data_within_limits ds ≡ true → AreWithinLimits ds
-within_of_data ds h =
-    let depth : Bool = nat_le (greatest (map depth_of_data ds)) data_depth_limit in
-    let nodes : Bool = nat_le (sum (map nodes_of_data ds)) data_node_limit in
-    let bytes : Bool = nat_le (sum (map bytes_of_data ds)) data_byte_limit in
-    let all = and_parts (list_all is_data ds) (depth && (nodes && bytes)) h in
-    let counts = and_parts depth (nodes && bytes) all.1 in
-    let last = and_parts nodes bytes counts.1 in
-    record { «data» = all.0; depth = leb-true _ _ counts.0; nodes = leb-true _ _ last.0; bytes = leb-true _ _ last.1 }
 
 code_is : (body : List Stmt) → IsCode body → is_code body ≡ true
 code_is body c = and_from (is_shaped body) _ c.shaped (and_from (is_plain body) _ c.plain (and_from (is_filled body) _ c.filled c.nowhere))
@@ -68,14 +51,14 @@ code_is_within body w =
     and_from (is_code body) _ (code_is body w.code)
     (and_from (nat_le (depth_of body) depth_limit) _ (le-leb _ _ w.depth)
     (and_from (nat_le (longest_in body) text_limit) _ (le-leb _ _ w.texts)
-    (and_from (are_data_within_limits (values_of body)) _ (data_are_within (values_of body) w.values)
+    (and_from (are_within (values_of body)) _ (are_within_by (values_of body) w.values)
     (and_from (is_empty (misplaced_jumps body)) _ (ap is_empty w.jumps) (ap is_empty w.names)))))
 
 pub within_of_code : (body : List Stmt) → is_code_within_limits body ≡ true → IsCodeWithinLimits body
 within_of_code body h =
     let deep : Bool = nat_le (depth_of body) depth_limit in
     let short : Bool = nat_le (longest_in body) text_limit in
-    let small : Bool = are_data_within_limits (values_of body) in
+    let small : Bool = are_within (values_of body) in
     let jumps : Bool = is_empty (misplaced_jumps body) in
     let names : Bool = is_empty (twice_in_client body) in
     let a = and_parts (is_code body) (deep && (short && (small && (jumps && names)))) h in
@@ -87,7 +70,7 @@ within_of_code body h =
       code = is_code_by body a.0;
       depth = leb-true _ _ b.0;
       texts = leb-true _ _ c.0;
-      values = within_of_data (values_of body) d.0;
+      values = within_are (values_of body) d.0;
       jumps = empty (misplaced_jumps body) e.0;
       names = empty (twice_in_client body) e.1;
     }

@@ -1,20 +1,17 @@
 -- The code whose text bytes are, where there is one.
-use Rattle.std.specs.Prelude.{ℕ, ◌&&◌, nat_le, if◌then◌else◌, List, [], ◌∷◌, map, sum, Bool, true, false, Option, Some, None}
-use Rattle.std.specs.List.{list_all}
+use Rattle.std.specs.Prelude.{ℕ, ◌&&◌, nat_le, if◌then◌else◌, List, [], ◌∷◌, Bool, true, false, Option, Some, None}
 use Rattle.std.specs.Str.{bytes_eq}
-use Rattle.mt_tree.specs.declared.data.Data.{Data}
-use Rattle.mt_tree.specs.Limits.{data_byte_limit, data_depth_limit, data_node_limit, depth_limit, text_limit}
+use Rattle.mt_tree.specs.Limits.{depth_limit, text_limit}
 use Rattle.mt_syntax.specs.CodeText.{code_text}
 use Rattle.mt_syntax.specs.Codes.{is_filled, is_plain, stands_nowhere}
-use Rattle.mt_syntax.specs.Data.{is_data}
-use Rattle.mt_syntax.specs.DataLimits.{bytes_of_data, depth_of_data, nodes_of_data}
-use Rattle.mt_syntax.specs.Depth.{depth_of, greatest}
+use Rattle.mt_syntax.specs.Depth.{depth_of}
 use Rattle.mt_syntax.specs.Numbering.{values_of}
 use Rattle.mt_syntax.specs.Shape.{is_shaped}
 use Rattle.mt_syntax.specs.Texts.{longest_in}
 use Rattle.mt_syntax.specs.declared.tree.Stmt.{Stmt}
 use Rattle.mt_stage_placement.specs.Placement.{misplaced_jumps}
 use Rattle.mt_stage_declared.specs.Twice.{twice_in_client}
+use Rattle.mt_json.specs.DataAt.{are_within}
 use Rattle.mt_json.specs.Reading.{◌>>=◌}
 use Rattle.mt_script_tree.specs.Reading.{stmts_at}
 
@@ -26,19 +23,13 @@ is_empty (x ∷ xs) = false
 abbrev pub is_code : List Stmt → Bool
 is_code body = is_shaped body && (is_plain body && (is_filled body && stands_nowhere body))
 
--- whether data are within the limits as one list
-abbrev pub are_data_within_limits : List Data → Bool
-are_data_within_limits ds =
-    list_all is_data ds
-    && (nat_le (greatest (map depth_of_data ds)) data_depth_limit && (nat_le (sum (map nodes_of_data ds)) data_node_limit && nat_le (sum (map bytes_of_data ds)) data_byte_limit))
-
 -- whether a list of statements is code within the limits
 abbrev pub is_code_within_limits : List Stmt → Bool
 is_code_within_limits body =
     is_code body
     && (nat_le (depth_of body) depth_limit
     && (nat_le (longest_in body) text_limit
-    && (are_data_within_limits (values_of body) && (is_empty (misplaced_jumps body) && is_empty (twice_in_client body)))))
+    && (are_within (values_of body) && (is_empty (misplaced_jumps body) && is_empty (twice_in_client body)))))
 
 abbrev pub spelled_by : List ℕ → List Stmt → Option (List Stmt)
 spelled_by bytes body = if is_code_within_limits body && bytes_eq (code_text body) bytes then Some body else None

@@ -1,7 +1,5 @@
-ghost use Rattle.std.specs.Prelude.{◌≡◌, ◌↔◌, [], List, IsTrue, IfOk, true};
-ghost use Rattle.std.specs.List.{list_all};
+ghost use Rattle.std.specs.Prelude.{◌≡◌, ◌↔◌, [], List, IsTrue, IfOk};
 ghost use Rattle.mt_tree.specs.declared.data.Data.{Data};
-ghost use Rattle.mt_syntax.specs.Data.{is_data};
 ghost use Rattle.mt_syntax.specs.DataLimits.{AreWithinLimits};
 ghost use Rattle.mt_syntax.specs.declared.tree.Stmt.{Stmt};
 ghost use Rattle.mt_stage_placement.specs.Placement.{misplaced_jumps};
@@ -12,7 +10,7 @@ ghost use Rattle.mt_script_read.specs.CodeAt.{code_at};
 ghost use Rattle.mt_script_read.specs.Reads.{Reads};
 
 use crate::walk::stmts;
-use mt_json::{DataRefusal, arguments_text, read_arguments};
+use mt_json::are_within_limits;
 use mt_script_tree::read_statements;
 use mt_script_words::CodeRefusal;
 use mt_script_write::code_text;
@@ -25,28 +23,12 @@ use std::alloc::Global;
 // How deep code nests.
 const DEPTH: u32 = DEPTH_LIMIT as u32;
 
-// Whether data are within the limits as one list: the reader of lists of data knows.
-fn are_within_limits(alloc: Global, values: &Row<Data>) -> Result<bool, CodeRefusal>
-    requires { list_all is_data values.now ≡ true }
-    ensures fits { IfOk result (λ fit. IsTrue fit ↔ AreWithinLimits values.now) }
-    ensures refused { result ≡ Err refusal.NotCode → ⊥ }
-{
-    let mut text = Vec::new(alloc);
-    arguments_text(alloc, values, &mut text)?;
-    match read_arguments(alloc, text.as_slice()) {
-        Ok(_values) => Ok(true),
-        Err(DataRefusal::NotData) => Ok(false),
-        Err(DataRefusal::NoMemory) => Err(CodeRefusal::NoMemory),
-    }
-}
-
 // Whether code with these values keeps the limits that what finds the code doesn't keep.
 fn is_within_limits(alloc: Global, code: &Code, values: &Row<Data>) -> Result<bool, CodeRefusal>
-    requires { list_all is_data values.now ≡ true }
     ensures fits { IfOk result (λ fit. IsTrue fit ↔ (AreWithinLimits values.now × ((misplaced_jumps code.now.body ≡ []) × (twice_in_client code.now.body ≡ [])))) }
     ensures refused { result ≡ Err refusal.NotCode → ⊥ }
 {
-    let small = are_within_limits(alloc, values)?;
+    let small = are_within_limits(alloc, values.items())?;
     if !small || !jumps_fit(&code.body) {
         return Ok(false);
     }

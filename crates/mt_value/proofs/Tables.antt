@@ -14,18 +14,18 @@ use Rattle.mt_value.specs.Names.{is_same, named}
 use Rattle.mt_value.specs.declared.value.Value.{Value}
 
 -- two tests of which each implies the other
-alike : (a b : Bool) → (a ≡ true → b ≡ true) → (b ≡ true → a ≡ true) → a ≡ b
-alike true true f g = refl
-alike true false f g = sym (f refl)
-alike false true f g = g refl
-alike false false f g = refl
+same_truth : (a b : Bool) → (a ≡ true → b ≡ true) → (b ≡ true → a ≡ true) → a ≡ b
+same_truth true true f g = refl
+same_truth true false f g = sym (f refl)
+same_truth false true f g = g refl
+same_truth false false f g = refl
 
 -- two texts have the same bytes where they have the same characters
 pub same_bytes : (q k : List ℕ) → IsUtf8 q → IsUtf8 k → bytes_eq q k ≡ is_same (chars q) (chars k)
 same_bytes q k u v =
     let bytes = bytes_eq-Decides q k in
     let characters = bytes_eq-Decides (chars q) (chars k) in
-    alike (bytes_eq q k) (is_same (chars q) (chars k)) (λ h. characters.1 (ap chars (bytes.0 h)))
+    same_truth (bytes_eq q k) (is_same (chars q) (chars k)) (λ h. characters.1 (ap chars (bytes.0 h)))
     (λ h. bytes.1 (sym (encodes-chars q u) ∙ ap encodes (characters.0 h) ∙ encodes-chars k v))
 
 module _ {A : Type 0} (q : List ℕ) (u : IsUtf8 q) where

@@ -1,9 +1,9 @@
 -- The stores and values that a program can meet.
 use Rattle.std.specs.Prelude.{◌≡◌, ℕ, ◌^◌, ◌<◌, List, length, map, All, None, Some, slice_get, IsTrue}
 use Rattle.std.specs.Option.{option_map}
+use Rattle.mt_syntax.specs.Data.{are_property_names, is_in_range}
 use Rattle.mt_value.specs.Globals.{Variables}
-use Rattle.mt_value.specs.Limits.{in_range, text_fits, data_fits, closure_fits, html_fits}
-use Rattle.mt_value.specs.Names.{are_names}
+use Rattle.mt_value.specs.Limits.{text_fits, data_fits, closure_fits, html_fits}
 use Rattle.mt_value.specs.declared.cell.Cell.{Cell}
 use Rattle.mt_value.specs.declared.cell.Cell.TheVariants as cell
 use Rattle.mt_value.specs.declared.cell.Property.{Property}
@@ -38,7 +38,7 @@ abbrev pub Keeps : List Cell → List Cell → Type 0
 Keeps old new = (kind : Kind) (at : ℕ) → Names old kind at → Names new kind at
 
 abbrev pub LawfulValue : List Cell → Value → Type 0
-LawfulValue store (value.Num n) = IsTrue (in_range n)
+LawfulValue store (value.Num n) = IsTrue (is_in_range n)
 LawfulValue store (value.Text text) = IsTrue (text_fits text)
 LawfulValue store (value.Arr at) = Names store array at
 LawfulValue store (value.Obj at) = Names store object at
@@ -52,7 +52,7 @@ LawfulValue store _ = Unit {0}
 pub record LawfulProperties (store : List Cell) (properties : List Property) : Type 0 where
   pub values : All (λ p. LawfulValue store p.value) properties
   pub texts : All (λ p. IsTrue (text_fits p.name)) properties
-  pub names : IsTrue (are_names (map (λ p. p.name) properties))
+  pub names : IsTrue (are_property_names (map (λ p. p.name) properties))
   pub count : length properties < 2 ^ 53
 
 pub record LawfulItems (store : List Cell) (items : List Value) : Type 0 where

@@ -1,5 +1,5 @@
--- How large numbers, texts and data may be.
-use Rattle.std.specs.Prelude.{ℕ, suc, ◌^◌, ℤ, pos, negsuc, Bool, true, ◌&&◌, nat_lt, nat_le, List, map}
+-- How large texts and data may be.
+use Rattle.std.specs.Prelude.{ℕ, ◌^◌, Bool, ◌&&◌, nat_le, List, map}
 use Rattle.std.specs.List.{list_all}
 use Rattle.mt_tree.specs.Text.{units_of}
 use Rattle.mt_tree.specs.declared.closure.Closure.{Closure}
@@ -11,12 +11,7 @@ use Rattle.mt_tree.specs.declared.html.AttributeValue.{AttributeValue}
 use Rattle.mt_tree.specs.declared.html.AttributeValue.TheVariants.{Plain, Handler}
 use Rattle.mt_tree.specs.declared.html.Html.{Html, fold-Html}
 use Rattle.mt_tree.specs.declared.html.Html.TheOpen.{Html-F, Element-F}
-use Rattle.mt_value.specs.Names.{are_names}
-
--- a number lies within 2^53 - 1 in size
-abbrev pub in_range : ℤ → Bool
-in_range (pos n) = nat_lt n (2 ^ 53)
-in_range (negsuc n) = nat_lt (suc n) (2 ^ 53)
+use Rattle.mt_syntax.specs.Data.{Named, data_step as step_of_data}
 
 -- a text has at most 1,048,576 units
 abbrev pub text_fits : List ℕ → Bool
@@ -25,22 +20,19 @@ text_fits text = nat_le (units_of text) (2 ^ 20)
 abbrev all_true : List Bool → Bool
 all_true = list_all (λ b. b)
 
--- ---- data: of each entry its name, and whether its value is within the limits
+-- ---- data: as data of the language are, but for the texts, each of which has so many units
 
-abbrev data_step : Data-F Bool (List ℕ × Bool) → Bool
-data_step (Data-F.Num n) = in_range n
+abbrev data_step : Data-F Bool Named → Bool
 data_step (Data-F.Text text) = text_fits text
-data_step (Data-F.Arr items) = all_true items
-data_step (Data-F.Obj entries) = all_true (map (λ e. e.1) entries) && are_names (map (λ e. e.0) entries)
 data_step (Data-F.Svc name) = text_fits name
-data_step _ = true
+data_step layer = step_of_data layer
 
-abbrev entry_step : Entry-F Bool (List ℕ × Bool) → List ℕ × Bool
+abbrev entry_step : Entry-F Bool Named → Named
 entry_step e = (e.name, text_fits e.name && e.value)
 
 -- numbers, texts and names are as they must be, at every depth
 unfoldable pub data_fits : Data → Bool
-data_fits = fold-Data Bool (List ℕ × Bool) data_step entry_step
+data_fits = fold-Data Bool Named data_step entry_step
 
 unfoldable pub closure_fits : Closure → Bool
 closure_fits c = all_true (map data_fits c.values)

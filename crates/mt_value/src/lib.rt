@@ -6,8 +6,9 @@
 //! an address that a call gave stays an address of the same cell, since there is no collector of garbage.
 //!
 //! `specs/Lawful.antt` says which stores, values and data a program can meet: addresses name cells of their kind, numbers
-//! and texts are within their limits, names of properties are distinct and none spells a whole number. The operators and
-//! the evaluator stand on this crate and keep that.
+//! and texts are within their limits, names of properties are distinct and none spells a whole number. Numbers, names of
+//! properties and data are as the definition of data in `mt_syntax` says, to which only the length of texts is added. The
+//! operators and the evaluator stand on this crate and keep that.
 #![tactic(auto)]
 
 mod address;

@@ -2,7 +2,7 @@ use Rattle.std.proofs.Common.{◌≡◌}
 use Rattle.std.specs.List.{list_all}
 use Rattle.std.specs.Str.{chars, IsUtf8}
 use Rattle.std.specs.Str.Iter.{chars_rest}
-use Rattle.mt_value.specs.Names.{is_digit}
+use Rattle.mt_syntax.specs.Data.{is_digit}
 use Rattle.mt_ops_properties.proofs.object.are_digits.Given as goal
 
 abbrev pub invariant-loop-c : goal.invariant-loop-c

@@ -9,7 +9,7 @@ use Rattle.mt_script_words.specs.declared.refusal.CodeRefusal.TheVariants as ref
 use Rattle.mt_script_tree.specs.Reading.{stmts_at}
 use Rattle.mt_script_read.specs.CodeAt.{code_at}
 use Rattle.mt_script_read.specs.Walking.{all_walks, walking}
-use Rattle.mt_script_read.proofs.Accepted.{data_met, found_fits, found_is_not_too_deep, found_is_read, nothing_is_read, text_of_found, values_are_within, walk_of, walk_to}
+use Rattle.mt_script_read.proofs.Accepted.{found_fits, found_is_not_too_deep, found_is_read, nothing_is_read, text_of_found, values_are_within, walk_of, walk_to}
 use Rattle.mt_script_read.proofs.Function.{none_is, read_is, refuses_bytes, refuses_deep, refuses_nothing}
 use Rattle.mt_script_read.proofs.reading.read_code.Goals as goal
 
@@ -30,11 +30,6 @@ pub returns-then-not-is_same-clause-refused : goal.returns-then-not-is_same-clau
 returns-then-not-is_same-clause-refused c refused body r =
     iff_false c.is_same.ensures c.if-not-is_same.true
     (c.as_slice.ensures.value ∙ c.in_ok-code_text.ensures.text ∙ ap (λ s. s ++ code_text c.in_ok-body.body) c.new-text.ensures.items ∙ text_of_found c.args.bytes.now c.in_ok-body.body c.in_ok-body.ensures body r)
-
-pub is_within_limits-requires : goal.is_within_limits-requires
-is_within_limits-requires c =
-    let walk = walk_to c.items.result.now c.in_ok-body.body c.new-values.result.items c.stmts.new.met.items c.in_ok-values.values c.items.ensures c.new-values.ensures.items c.in_ok-values.ensures c.in_ok-stmts.ensures in
-    data_met c.args.bytes.now c.in_ok-body.body c.in_ok-body.ensures c.in_ok-values.values walk
 
 pub returns-then-not-within-clause-refused : goal.returns-then-not-within-clause-refused
 returns-then-not-within-clause-refused c refused body r =
