@@ -1,6 +1,8 @@
 //! Arguments that several calls take.
 
-use anyhow::{Context, Result, bail};
+ghost use Rattle.std.specs.Prelude.{◌<◌, IfOk};
+
+use anyhow::{Context, Result, bail, ensure};
 use mt_outside::{Alteration, FileEntry, Slot};
 use mt_tree::{Buffer, Text, push};
 use rows::{Line, made};
@@ -23,8 +25,12 @@ pub fn failing(alloc: Global, line: &Line, at: usize) -> Result<Vec<u64>> {
 }
 
 /// The length of a piece, which is not 0.
-pub fn piece(line: &Line, at: usize) -> Result<usize> {
-    Ok(usize::try_from(line.number(at)?)?)
+pub fn piece(line: &Line, at: usize) -> Result<usize>
+    ensures { IfOk result (λ piece. 0 < piece) }
+{
+    let piece = usize::try_from(line.number(at)?)?;
+    ensure!(piece > 0, "no piece");
+    Ok(piece)
 }
 
 /// The alterations at a place, each with whether it is one of the reply, the place of the byte, and the byte that arrives there.
@@ -41,16 +47,16 @@ fn alteration(item: &Value) -> Result<Alteration> {
     let [reply, offset, byte] = parts.as_slice() else {
         bail!("no alteration");
     };
-    let reply = reply.as_bool().context("no kind")?;
-    let offset = offset.as_u64().context("no place")?;
-    let byte = byte.as_u64().context("no byte")?;
     let slot = Slot {
         client: 1,
         message: 1,
-        reply,
+        reply: reply.as_bool().context("no kind")?,
     };
-    let byte = u8::try_from(byte)?;
-    Ok(Alteration { slot, offset, byte })
+    Ok(Alteration {
+        slot,
+        offset: offset.as_u64().context("no place")?,
+        byte: u8::try_from(byte.as_u64().context("no byte")?)?,
+    })
 }
 
 /// A file in memory.
