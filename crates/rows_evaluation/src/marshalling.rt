@@ -1,6 +1,6 @@
 //! Values that are marshalled.
 
-use crate::operands::operands;
+use crate::operands::{operands, steps};
 use crate::shown;
 use anyhow::{Result, bail};
 use mt_eval_meaning::{Budget, Done};
@@ -8,7 +8,7 @@ use mt_eval_steps::nodes;
 use mt_json::arguments_text;
 use mt_marshal::elaborate;
 use mt_tree::{Data, Row};
-use mt_value::{Cell, Store, Value};
+use mt_value::{Address, Cell, Store, Value};
 use rows::{Line, add, made};
 use std::alloc::Global;
 use std::str;
@@ -17,14 +17,16 @@ use std::str;
 pub fn snapshot(alloc: Global, line: &Line) -> Result<String> {
     let (evaluated, values) = operands(alloc, line, 0)?;
     match mt_marshal::snapshot(alloc, &evaluated.store, values.as_slice()) {
-        Ok(data) => {
-            if line.call() == "nodes" {
-                counts(alloc, data.items())
-            } else {
-                text(alloc, &data)
-            }
-        }
+        Ok(data) => counts_or_text(alloc, line, &data),
         Err(refusal) => Ok(format!(in alloc; "{refusal:?}")?),
+    }
+}
+
+fn counts_or_text(alloc: Global, line: &Line, data: &Row<Data>) -> Result<String> {
+    if line.call() == "nodes" {
+        counts(alloc, data.items())
+    } else {
+        text(alloc, data)
     }
 }
 
@@ -45,23 +47,22 @@ fn text(alloc: Global, data: &Row<Data>) -> Result<String> {
 /// Client code of a tilde and the operands, made with that many steps.
 pub fn elaborated(alloc: Global, line: &Line) -> Result<String> {
     let (mut evaluated, values) = operands(alloc, line, 0)?;
+    of_values(alloc, line, values.as_slice(), &mut evaluated.store)
+}
+
+fn of_values(alloc: Global, line: &Line, values: &[Value], store: &mut Store) -> Result<String> {
     let tilde = u32::try_from(line.number(2)?)?;
-    let mut budget = Budget {
-        left: u64::try_from(line.number(3)?)?,
-    };
-    let values = values.as_slice();
-    let done = made(elaborate(alloc, tilde, values, &mut evaluated.store, &mut budget))?;
+    let left = steps(line, 3)?;
+    let mut budget = Budget { left };
+    let done = made(elaborate(alloc, tilde, values, store, &mut budget))?;
     match &done {
-        Done::Value(value) => code(alloc, &evaluated.store, value, budget.left),
-        _ => shown::done(alloc, &evaluated.store, &done, budget.left),
+        Done::Value(Value::Code(at)) => code(alloc, store, *at, budget.left),
+        _ => shown::done(alloc, store, &done, budget.left),
     }
 }
 
-fn code(alloc: Global, store: &Store, value: &Value, left: u64) -> Result<String> {
-    let Value::Code(at) = value else {
-        bail!("no code");
-    };
-    match store.get(*at) {
+fn code(alloc: Global, store: &Store, at: Address, left: u64) -> Result<String> {
+    match store.get(at) {
         Some(Cell::Code(code)) => {
             let tilde = code.tilde;
             let values = text(alloc, &code.values)?;

@@ -11,20 +11,28 @@ use std::alloc::Global;
 /// The operands that a line says: the values whose names are in the list at a place, and the items of the array that the source behind
 /// it throws. They stand on the store of that evaluation, and the values by their names share one cell of it.
 pub fn operands(alloc: Global, line: &Line, at: usize) -> Result<(Ended, Vec<Value>)> {
-    let names = line.argument(at)?.as_array().context("no names")?;
-    let source = line.argument(at.saturating_add(1))?;
-    let source = source.as_str().context("no source")?;
+    let source = line.text(at.saturating_add(1))?;
     let mut evaluated = evaluated(alloc, source, STEP_LIMIT)?;
-    let mut values = Vec::new(alloc);
+    let values = values(alloc, line, at, &mut evaluated)?;
+    Ok((evaluated, values))
+}
+
+fn values(alloc: Global, line: &Line, at: usize, evaluated: &mut Ended) -> Result<Vec<Value>> {
     let cell = made(evaluated.store.add(Cell::Variable(None)))?;
+    let mut values = named_values(alloc, line, at, cell)?;
+    add_items(&mut values, thrown(&evaluated.done, &evaluated.store)?)?;
+    Ok(values)
+}
+
+// The values whose names are in the list at a place.
+fn named_values(alloc: Global, line: &Line, at: usize, cell: Address) -> Result<Vec<Value>> {
+    let names = line.argument(at)?.as_array().context("no names")?;
+    let mut values = Vec::new(alloc);
     for name in names.iter() {
         let name = name.as_str().context("no name")?;
         made(push(&mut values, named(name, cell)?))?;
     }
-    for item in thrown(&evaluated.done, &evaluated.store)?.iter() {
-        made(push(&mut values, made(item.share())?))?;
-    }
-    Ok((evaluated, values))
+    Ok(values)
 }
 
 fn named(name: &str, cell: Address) -> Result<Value> {
@@ -34,6 +42,13 @@ fn named(name: &str, cell: Address) -> Result<Value> {
         "frame" => Value::Frame(cell),
         "html" => Value::Html(cell),
         "code" => Value::Code(cell),
+        other => return without_cell(other),
+    };
+    Ok(value)
+}
+
+fn without_cell(name: &str) -> Result<Value> {
+    let value = match name {
         "node" => Value::Node(1),
         "event" => Value::Event(1),
         "alert" => Value::Native(Native::Alert),
@@ -53,4 +68,16 @@ fn thrown<'s>(done: &Done, store: &'s Store) -> Result<&'s [Value]> {
         Some(Cell::Arr(items)) => Ok(items.items()),
         _ => bail!("no array"),
     }
+}
+
+fn add_items(values: &mut Vec<Value>, items: &[Value]) -> Result<()> {
+    for item in items.iter() {
+        made(push(values, made(item.share())?))?;
+    }
+    Ok(())
+}
+
+/// The steps at a place.
+pub fn steps(line: &Line, at: usize) -> Result<u64> {
+    Ok(u64::try_from(line.number(at)?)?)
 }

@@ -3,9 +3,11 @@
 use crate::operands::operands;
 use crate::shown;
 use anyhow::{Result, bail};
+use mt_ops::Outcome;
 use mt_ops_methods::method_cost;
 use mt_ops_properties::{binary_cost, get_property, property_cost, set_property, unary_cost};
-use mt_tree::{Binary, Text, Unary};
+use mt_tree::{Binary, NoMemory, Text, Unary};
+use mt_value::{Store, Value};
 use rows::{Line, made};
 use std::alloc::Global;
 
@@ -13,14 +15,24 @@ use std::alloc::Global;
 pub fn binary(alloc: Global, line: &Line) -> Result<String> {
     let op = binary_named(line.text(0)?)?;
     let (mut evaluated, values) = operands(alloc, line, 1)?;
-    let [left, right] = values.as_slice() else {
+    binary_of(alloc, line, op, values.as_slice(), &mut evaluated.store)
+}
+
+fn binary_of(
+    alloc: Global,
+    line: &Line,
+    op: Binary,
+    values: &[Value],
+    store: &mut Store,
+) -> Result<String> {
+    let [left, right] = values else {
         bail!("not two operands");
     };
     if line.call() == "binary_cost" {
-        return Ok(format!(in alloc; "{}", binary_cost(op, left, right))?);
+        return cost(alloc, binary_cost(op, left, right));
     }
-    let outcome = made(mt_ops::binary(alloc, op, left, right, &mut evaluated.store))?;
-    shown::outcome(alloc, &evaluated.store, &outcome)
+    let outcome = mt_ops::binary(alloc, op, left, right, store);
+    came_to(alloc, store, outcome)
 }
 
 fn binary_named(name: &str) -> Result<Binary> {
@@ -39,14 +51,24 @@ fn binary_named(name: &str) -> Result<Binary> {
 pub fn unary(alloc: Global, line: &Line) -> Result<String> {
     let op = unary_named(line.text(0)?)?;
     let (mut evaluated, values) = operands(alloc, line, 1)?;
-    let [operand] = values.as_slice() else {
+    unary_of(alloc, line, op, values.as_slice(), &mut evaluated.store)
+}
+
+fn unary_of(
+    alloc: Global,
+    line: &Line,
+    op: Unary,
+    values: &[Value],
+    store: &mut Store,
+) -> Result<String> {
+    let [operand] = values else {
         bail!("not one operand");
     };
     if line.call() == "unary_cost" {
-        return Ok(format!(in alloc; "{}", unary_cost(op, operand))?);
+        return cost(alloc, unary_cost(op, operand));
     }
-    let outcome = made(mt_ops::unary(alloc, op, operand, &mut evaluated.store))?;
-    shown::outcome(alloc, &evaluated.store, &outcome)
+    let outcome = mt_ops::unary(alloc, op, operand, store);
+    came_to(alloc, store, outcome)
 }
 
 fn unary_named(name: &str) -> Result<Unary> {
@@ -63,33 +85,52 @@ fn unary_named(name: &str) -> Result<Unary> {
 /// A property that is read, or what that costs.
 pub fn read(alloc: Global, line: &Line) -> Result<String> {
     let (mut evaluated, values) = operands(alloc, line, 0)?;
-    let [base, key] = values.as_slice() else {
+    read_of(alloc, line, values.as_slice(), &mut evaluated.store)
+}
+
+fn read_of(alloc: Global, line: &Line, values: &[Value], store: &mut Store) -> Result<String> {
+    let [base, key] = values else {
         bail!("no base and key");
     };
     if line.call() == "property_cost" {
-        return Ok(format!(in alloc; "{}", property_cost(base, key))?);
+        return cost(alloc, property_cost(base, key));
     }
-    let outcome = made(get_property(alloc, base, key, &mut evaluated.store))?;
-    shown::outcome(alloc, &evaluated.store, &outcome)
+    let outcome = get_property(alloc, base, key, store);
+    came_to(alloc, store, outcome)
 }
 
 /// A property that is written.
 pub fn written(alloc: Global, line: &Line) -> Result<String> {
     let (mut evaluated, values) = operands(alloc, line, 0)?;
-    let [base, key, value] = values.as_slice() else {
+    written_of(alloc, values.as_slice(), &mut evaluated.store)
+}
+
+fn written_of(alloc: Global, values: &[Value], store: &mut Store) -> Result<String> {
+    let [base, key, value] = values else {
         bail!("no base, key and value");
     };
-    let outcome = made(set_property(alloc, base, key, value, &mut evaluated.store))?;
-    shown::outcome(alloc, &evaluated.store, &outcome)
+    let outcome = set_property(alloc, base, key, value, store);
+    came_to(alloc, store, outcome)
 }
 
 /// What a call of a method costs.
 pub fn method(alloc: Global, line: &Line) -> Result<String> {
-    let key = made(Text::from_str(alloc, line.text(0)?))?;
     let (evaluated, values) = operands(alloc, line, 1)?;
-    let [base, arguments @ ..] = values.as_slice() else {
+    method_of(alloc, line.text(0)?, values.as_slice(), &evaluated.store)
+}
+
+fn method_of(alloc: Global, name: &str, values: &[Value], store: &Store) -> Result<String> {
+    let [base, arguments @ ..] = values else {
         bail!("no base");
     };
-    let cost = method_cost(base, &key, arguments, &evaluated.store);
-    Ok(format!(in alloc; "{cost}")?)
+    let key = made(Text::from_str(alloc, name))?;
+    cost(alloc, method_cost(base, &key, arguments, store))
+}
+
+fn cost(alloc: Global, steps: u64) -> Result<String> {
+    Ok(format!(in alloc; "{steps}")?)
+}
+
+fn came_to(alloc: Global, store: &Store, outcome: Result<Outcome, NoMemory>) -> Result<String> {
+    shown::outcome(alloc, store, &made(outcome)?)
 }

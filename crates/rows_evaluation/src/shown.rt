@@ -43,10 +43,14 @@ pub fn outcome(alloc: Global, store: &Store, outcome: &Outcome) -> Result<String
 
 /// How an evaluation ended, and the steps that are left.
 pub fn done(alloc: Global, store: &Store, done: &Done, left: u64) -> Result<String> {
-    let end = match done {
-        Done::Value(given) => value(alloc, store, given)?,
-        Done::Throw(given) => thrown(alloc, store, given)?,
-        Done::Stop(stop) => format!(in alloc; "{stop:?}")?,
-    };
+    let end = end(alloc, store, done)?;
     Ok(format!(in alloc; "{end}, {left} left")?)
+}
+
+fn end(alloc: Global, store: &Store, done: &Done) -> Result<String> {
+    match done {
+        Done::Value(given) => value(alloc, store, given),
+        Done::Throw(given) => thrown(alloc, store, given),
+        Done::Stop(stop) => Ok(format!(in alloc; "{stop:?}")?),
+    }
 }
