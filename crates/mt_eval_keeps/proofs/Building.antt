@@ -13,6 +13,7 @@ use Rattle.mt_eval_meaning.specs.Building.{Built, build, built_plain, built_all,
 use Rattle.mt_eval_meaning.specs.Expressions as forms
 use Rattle.mt_eval_meaning.specs.State.{on_state}
 use Rattle.mt_eval_meaning.specs.declared.state.State.{State}
+use Rattle.mt_syntax.specs.Data.{are_property_names, data_step as step_of_data}
 use Rattle.mt_syntax.specs.DataLimits.{entry_value_step, nodes_of_data, nodes_of_entry, nodes_step}
 use Rattle.mt_tree.specs.declared.data.Data.{Data, roll-Data}
 use Rattle.mt_tree.specs.declared.data.Data.TheFolds.{ind-Data, map-Data, map-Entry, fold-Entry, fold-roll-Data, fold-roll-Entry}
@@ -20,8 +21,7 @@ use Rattle.mt_tree.specs.declared.data.Data.TheOpen.{Data-F, Entry-F}
 use Rattle.mt_tree.specs.declared.data.Entry.{Entry, roll-Entry}
 use Rattle.mt_value.proofs.Laws.{lawful_added, value_kept, values_kept}
 use Rattle.mt_value.specs.Lawful.{Keeps, LawfulValue, Lawful}
-use Rattle.mt_value.specs.Limits.{data_fits, in_range, text_fits}
-use Rattle.mt_value.specs.Names.{are_names}
+use Rattle.mt_value.specs.Limits.{data_fits, text_fits}
 use Rattle.mt_value.specs.declared.cell.Cell.{Cell}
 use Rattle.mt_value.specs.declared.cell.Cell.TheVariants as cell
 use Rattle.mt_value.specs.declared.cell.Property.{Property}
@@ -37,12 +37,9 @@ abbrev Tested : Type 0
 Tested = List ℕ × Bool
 
 abbrev fits_step : Data-F Bool Tested → Bool
-fits_step (Data-F.Num n) = in_range n
 fits_step (Data-F.Text text) = text_fits text
-fits_step (Data-F.Arr items) = list_all (λ b. b) items
-fits_step (Data-F.Obj entries) = list_all (λ b. b) (map (λ e. e.1) entries) && are_names (map (λ e. e.0) entries)
 fits_step (Data-F.Svc name) = text_fits name
-fits_step _ = true
+fits_step layer = step_of_data layer
 
 abbrev tested_step : Entry-F Bool Tested → Tested
 tested_step e = (e.name, text_fits e.name && e.value)
@@ -154,7 +151,7 @@ module _ {H : Type 0} (owns : Owning H) (most : ℕ) (small : most < 2 ^ 53) whe
         let parts = and_parts (text_fits p.name) (list_all text_fits (map (λ (q : Property). q.name) ps)) k in
         All-cons (λ (q : Property). IsTrue (text_fits q.name)) p ps parts.0 (texts_fit ps parts.1)
 
-    object_stays : (names : List (List ℕ)) (properties : Built (List Property)) → are_names names ≡ true → list_all text_fits names ≡ true → length names ≤ m → Builds (PropertiesOf names) properties → Builds Val (built_object properties)
+    object_stays : (names : List (List ℕ)) (properties : Built (List Property)) → are_property_names names ≡ true → list_all text_fits names ≡ true → length names ≤ m → Builds (PropertiesOf names) properties → Builds Val (built_object properties)
     object_stays names properties good fit few f store lawful cells =
         let r = properties store in
         let made = f store lawful cells in
@@ -167,7 +164,7 @@ module _ {H : Type 0} (owns : Owning H) (most : ℕ) (small : most < 2 ^ 53) whe
           lawful = lawful_added r.1 c made.lawful (record {
             values = All-weaker (λ p. Val r.1 p.value) (λ p. LawfulValue grown p.value) (λ p x. value_kept r.1 grown added.kinds p.value x.lawful) r.0 made.value.values;
             texts = texts_fit r.0 (ap (list_all text_fits) made.value.names-are ∙ fit);
-            names = ap are_names made.value.names-are ∙ good;
+            names = ap are_property_names made.value.names-are ∙ good;
             count = omega (arith, count, room, small);
           });
           cells = All-push Q r.1 c made.cells (record { own = All-weaker (λ p. Val r.1 p.value) (λ p. OwnValue owns h p.value) (λ p x. x.own) r.0 made.value.values; room = omega (arith, count, room) });
@@ -209,21 +206,21 @@ module _ {H : Type 0} (owns : Owning H) (most : ℕ) (small : most < 2 ^ 53) whe
     abbrev names_of : List KeepingEntry → List (List ℕ)
     names_of es = map (λ (t : Tested). t.0) (map tested (entries_in es))
 
-    entries_kept : (es : List KeepingEntry) → list_all (λ b. b) (map (λ (t : Tested). t.1) (map tested (entries_in es))) ≡ true → sum (map nodes_of_entry (entries_in es)) ≤ m
+    entries_kept : (es : List KeepingEntry) → list_all (λ (t : Tested). t.1) (map tested (entries_in es)) ≡ true → sum (map nodes_of_entry (entries_in es)) ≤ m
         → Builds (PropertiesOf (names_of es)) (built_all (map build_entry (entries_in es)))
     entries_kept [] fit few = plain_stays (PropertiesOf []) [] (λ store. record { values = All-nil (λ (p : Property). Val store p.value); names-are = refl })
     entries_kept (e ∷ es) fit few =
-        let parts = and_parts (tested e.0).1 (list_all (λ b. b) (map (λ (t : Tested). t.1) (map tested (entries_in es)))) fit in
+        let parts = and_parts (tested e.0).1 (list_all (λ (t : Tested). t.1) (map tested (entries_in es))) fit in
         properties_cons (tested e.0).0 (names_of es) (build_entry e.0) (map build_entry (entries_in es)) (e.1.kept parts.0 (omega (arith, few, sum_by-cons (λ k. k) (nodes_of_entry e.0) (map nodes_of_entry (entries_in es))))) (entries_kept es parts.1 (omega (arith, few, sum_by-cons (λ k. k) (nodes_of_entry e.0) (map nodes_of_entry (entries_in es)))))
 
     fewer_entries : (es : List KeepingEntry) → length (names_of es) ≤ sum (map nodes_of_entry (entries_in es))
     fewer_entries [] = omega arith
     fewer_entries (e ∷ es) = omega (arith, e.1.some, fewer_entries es, sum_by-cons (λ k. k) (nodes_of_entry e.0) (map nodes_of_entry (entries_in es)))
 
-    names_fit : (es : List KeepingEntry) → list_all (λ b. b) (map (λ (t : Tested). t.1) (map tested (entries_in es))) ≡ true → list_all text_fits (names_of es) ≡ true
+    names_fit : (es : List KeepingEntry) → list_all (λ (t : Tested). t.1) (map tested (entries_in es)) ≡ true → list_all text_fits (names_of es) ≡ true
     names_fit [] fit = refl
     names_fit (e ∷ es) fit =
-        let parts = and_parts (tested e.0).1 (list_all (λ b. b) (map (λ (t : Tested). t.1) (map tested (entries_in es)))) fit in
+        let parts = and_parts (tested e.0).1 (list_all (λ (t : Tested). t.1) (map tested (entries_in es))) fit in
         both (text_fits (tested e.0).0) (list_all text_fits (names_of es)) (e.1.name parts.0) (names_fit es parts.1)
 
     layer_kept : (x : Data-F Data Entry) → 1 ≤ nodes_step (map-Data Data Entry ℕ ℕ nodes_of_data nodes_of_entry x)
@@ -249,8 +246,8 @@ module _ {H : Type 0} (owns : Owning H) (most : ℕ) (small : most < 2 ^ 53) whe
     by_layer (Data-F.Obj es) =
         layer_kept (Data-F.Obj (entries_in es)) (omega arith)
         (λ fit few.
-        let parts = and_parts (list_all (λ b. b) (map (λ (t : Tested). t.1) (map tested (entries_in es)))) (are_names (names_of es)) fit in
-        object_stays (names_of es) (built_all (map build_entry (entries_in es))) parts.1 (names_fit es parts.0) (omega (arith, few, fewer_entries es)) (entries_kept es parts.0 (omega (arith, few))))
+        let parts = and_parts (are_property_names (names_of es)) (list_all (λ (t : Tested). t.1) (map tested (entries_in es))) fit in
+        object_stays (names_of es) (built_all (map build_entry (entries_in es))) parts.0 (names_fit es parts.1) (omega (arith, few, fewer_entries es)) (entries_kept es parts.1 (omega (arith, few))))
     by_layer (Data-F.Svc name) = layer_kept (Data-F.Svc name) (omega arith) (λ fit few. plain (value.Svc name) (λ store. fit) tt)
 
     entry_kept : (x : Entry-F Data Entry) → IsKept x.value → IsEntryKept (roll-Entry x)

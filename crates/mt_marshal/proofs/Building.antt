@@ -10,6 +10,7 @@ use Rattle.mt_eval_steps.specs.Entries.{build_entry}
 use Rattle.mt_marshal.proofs.Parts.{Tested, fits_level, fits_step, tested, tested_level}
 use Rattle.mt_marshal.specs.Lawful.{Stays}
 use Rattle.mt_eval_meaning.specs.Building.{Built, build, built_plain, built_all, built_array, built_object, data_step, entry_step}
+use Rattle.mt_syntax.specs.Data.{are_property_names}
 use Rattle.mt_syntax.specs.DataLimits.{entry_value_step, nodes_of_data, nodes_of_entry, nodes_step}
 use Rattle.mt_tree.specs.declared.data.Data.{Data, roll-Data}
 use Rattle.mt_tree.specs.declared.data.Data.TheFolds.{ind-Data, map-Data, map-Entry, fold-roll-Data, fold-roll-Entry}
@@ -18,7 +19,6 @@ use Rattle.mt_tree.specs.declared.data.Entry.{Entry, roll-Entry}
 use Rattle.mt_value.proofs.Laws.{keeps_added, keeps_all, lawful_added, value_kept, values_kept}
 use Rattle.mt_value.specs.Lawful.{kind_of, Names, LawfulValue, Lawful}
 use Rattle.mt_value.specs.Limits.{data_fits, text_fits}
-use Rattle.mt_value.specs.Names.{are_names}
 use Rattle.mt_value.specs.declared.cell.Cell.{Cell}
 use Rattle.mt_value.specs.declared.cell.Cell.TheVariants as cell
 use Rattle.mt_value.specs.declared.cell.Property.{Property}
@@ -109,7 +109,7 @@ texts_fit (p ∷ ps) h =
     let parts = and_parts (text_fits p.name) (list_all text_fits (map (λ (q : Property). q.name) ps)) h in
     All-cons (λ (q : Property). IsTrue (text_fits q.name)) p ps parts.0 (texts_fit ps parts.1)
 
-object_stays : (names : List (List ℕ)) (properties : Built (List Property)) → are_names names ≡ true → list_all text_fits names ≡ true → length names < 2 ^ 53 → Builds (PropertiesOf names) properties → Builds LawfulValue (built_object properties)
+object_stays : (names : List (List ℕ)) (properties : Built (List Property)) → are_property_names names ≡ true → list_all text_fits names ≡ true → length names < 2 ^ 53 → Builds (PropertiesOf names) properties → Builds LawfulValue (built_object properties)
 object_stays names properties good fit few h store lawful =
     let r = properties store in
     let made = h store lawful in
@@ -121,7 +121,7 @@ object_stays names properties good fit few h store lawful =
       lawful = lawful_added r.1 c made.lawful (record {
         values = All-weaker (λ p. LawfulValue r.1 p.value) (λ p. LawfulValue grown p.value) (λ p. value_kept r.1 grown added p.value) r.0 made.value.values;
         texts = texts_fit r.0 (ap (list_all text_fits) made.value.names-are ∙ fit);
-        names = ap are_names made.value.names-are ∙ good;
+        names = ap are_property_names made.value.names-are ∙ good;
         count = subst (λ k. k < 2 ^ 53) (sym (ap length made.value.names-are) ∙ length-map r.0 (λ (p : Property). p.name)) few;
       });
       value = names_last r.1 c;
@@ -162,21 +162,21 @@ fewer_items (d ∷ ds) = omega (arith, d.1.0, fewer_items ds, sum_by-cons (λ n.
 abbrev names_of : List KeepingEntry → List (List ℕ)
 names_of es = map (λ (t : Tested). t.0) (map tested (entries_in es))
 
-entries_kept : (es : List KeepingEntry) → list_all (λ b. b) (map (λ (t : Tested). t.1) (map tested (entries_in es))) ≡ true → sum (map nodes_of_entry (entries_in es)) < 2 ^ 53
+entries_kept : (es : List KeepingEntry) → list_all (λ (t : Tested). t.1) (map tested (entries_in es)) ≡ true → sum (map nodes_of_entry (entries_in es)) < 2 ^ 53
     → Builds (PropertiesOf (names_of es)) (built_all (map build_entry (entries_in es)))
 entries_kept [] fit few = properties_none
 entries_kept (e ∷ es) fit few =
-    let parts = and_parts (tested e.0).1 (list_all (λ b. b) (map (λ (t : Tested). t.1) (map tested (entries_in es)))) fit in
+    let parts = and_parts (tested e.0).1 (list_all (λ (t : Tested). t.1) (map tested (entries_in es))) fit in
     properties_cons (tested e.0).0 (names_of es) (build_entry e.0) (map build_entry (entries_in es)) (e.1.kept parts.0 (omega (arith, few, sum_by-cons (λ n. n) (nodes_of_entry e.0) (map nodes_of_entry (entries_in es))))) (entries_kept es parts.1 (omega (arith, few, sum_by-cons (λ n. n) (nodes_of_entry e.0) (map nodes_of_entry (entries_in es)))))
 
 fewer_entries : (es : List KeepingEntry) → length (names_of es) ≤ sum (map nodes_of_entry (entries_in es))
 fewer_entries [] = omega arith
 fewer_entries (e ∷ es) = omega (arith, e.1.some, fewer_entries es, sum_by-cons (λ n. n) (nodes_of_entry e.0) (map nodes_of_entry (entries_in es)))
 
-names_fit : (es : List KeepingEntry) → list_all (λ b. b) (map (λ (t : Tested). t.1) (map tested (entries_in es))) ≡ true → list_all text_fits (names_of es) ≡ true
+names_fit : (es : List KeepingEntry) → list_all (λ (t : Tested). t.1) (map tested (entries_in es)) ≡ true → list_all text_fits (names_of es) ≡ true
 names_fit [] fit = refl
 names_fit (e ∷ es) fit =
-    let parts = and_parts (tested e.0).1 (list_all (λ b. b) (map (λ (t : Tested). t.1) (map tested (entries_in es)))) fit in
+    let parts = and_parts (tested e.0).1 (list_all (λ (t : Tested). t.1) (map tested (entries_in es))) fit in
     both (text_fits (tested e.0).0) (list_all text_fits (names_of es)) (e.1.name parts.0) (names_fit es parts.1)
 
 layer_kept : (x : Data-F Data Entry) → 1 ≤ nodes_step (map-Data Data Entry ℕ ℕ nodes_of_data nodes_of_entry x)
@@ -199,8 +199,8 @@ by_layer (Data-F.Arr ds) =
 by_layer (Data-F.Obj es) =
     layer_kept (Data-F.Obj (entries_in es)) (omega arith)
     (λ fit few.
-    let parts = and_parts (list_all (λ b. b) (map (λ (t : Tested). t.1) (map tested (entries_in es)))) (are_names (names_of es)) fit in
-    object_stays (names_of es) (built_all (map build_entry (entries_in es))) parts.1 (names_fit es parts.0) (omega (arith, few, fewer_entries es)) (entries_kept es parts.0 (omega (arith, few))))
+    let parts = and_parts (are_property_names (names_of es)) (list_all (λ (t : Tested). t.1) (map tested (entries_in es))) fit in
+    object_stays (names_of es) (built_all (map build_entry (entries_in es))) parts.0 (names_fit es parts.1) (omega (arith, few, fewer_entries es)) (entries_kept es parts.1 (omega (arith, few))))
 by_layer (Data-F.Svc name) = layer_kept (Data-F.Svc name) (omega arith) (λ fit few. plain_stays LawfulValue (value.Svc name) (λ store. fit))
 
 entry_kept : (x : Entry-F Data Entry) → IsKept x.value → IsEntryKept (roll-Entry x)

@@ -3,7 +3,6 @@ mod Chains
 pub mod Elaborating
 mod Levels
 mod Measures
-mod Names
 mod Parts
 mod Seen
 mod Snapped

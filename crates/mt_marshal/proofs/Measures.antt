@@ -8,7 +8,6 @@ use Rattle.std.proofs.lemmas.Bool.Decides.{nat_tests}
 use Rattle.std.proofs.lemmas.List.Sums.{sum_by-cons}
 use Rattle.std.proofs.lemmas.List.Elements.{All-cons, All-head, All-nil, All-tail}
 use Rattle.mt_marshal.proofs.Chains.{Chain, chain_of, same_given}
-use Rattle.mt_marshal.proofs.Names.{same_names}
 use Rattle.mt_marshal.proofs.Parts.{entry_is_data, nodes_of_items, nodes_of_entries, nodes_of_one, bytes_of_items, bytes_of_entries, bytes_of_one, depth_of_items, depth_of_entries, depth_of_one, data_of_items, data_of_entries, data_of_entry, characters_of_items, characters_of_entries, characters_of_entry, characters_of_text, characters_of_service, data_of_number, data_of_text, data_of_service, fits_of_number, fits_of_text, fits_of_service, Tested, tested, fits_of_items, fits_of_entries, fits_of_one, names_of_entries}
 use Rattle.mt_marshal.specs.Characters.{has_characters, entry_has_characters}
 use Rattle.mt_marshal.specs.Rules.{broken, bytes_of, is_callable, is_html, is_nested, is_opaque, items_in, met, name_bytes, properties_in, stands_on}
@@ -27,7 +26,6 @@ use Rattle.mt_tree.specs.declared.data.Data as «data»
 use Rattle.mt_tree.specs.declared.data.Entry.{Entry}
 use Rattle.mt_value.specs.Lawful.{LawfulValue, LawfulCell, Lawful}
 use Rattle.mt_value.specs.Limits.{data_fits, text_fits}
-use Rattle.mt_value.specs.Names.{are_names}
 use Rattle.mt_value.specs.declared.cell.Cell.{Cell}
 use Rattle.mt_value.specs.declared.cell.Cell.TheVariants as cell
 use Rattle.mt_value.specs.declared.cell.Property.{Property}
@@ -180,7 +178,7 @@ module _ (store : List Cell) where
     pub bytes : e.bytes + sum (map name_bytes ps) ≡ c.bytes + sum (map bytes_of_entry xs)
     pub small : IsSmall c → IsSmall e
     pub whole : Lawful store → All (λ p. LawfulValue store p.value) ps → list_all entry_has_characters xs ≡ true → list_all entry_is_data xs ≡ true
-    pub fits : Lawful store → All (λ p. LawfulValue store p.value) ps → All (λ p. IsTrue (text_fits p.name)) ps → list_all (λ b. b) (map (λ (t : Tested). t.1) (map tested xs)) ≡ true
+    pub fits : Lawful store → All (λ p. LawfulValue store p.value) ps → All (λ p. IsTrue (text_fits p.name)) ps → list_all (λ (t : Tested). t.1) (map tested xs) ≡ true
 
   all_entries_measured : (levels : ℕ) (ps : List Property) (c : Counts) (xs : List Entry) (e : Counts) → Chain (MeasuredEntry levels) ps c xs e → AllMeasuredEntries levels ps c xs e
   all_entries_measured levels [] c [] e same = record { names = refl; depth = omega arith; nodes = ap (λ (x : Counts). x.nodes) (sym same) ∙ omega arith; bytes = ap (λ (x : Counts). x.bytes + 0) (sym same); small = subst IsSmall same; whole = λ lawful values texts. refl; fits = λ lawful values texts. refl }
@@ -201,7 +199,7 @@ module _ (store : List Cell) where
         fits = λ lawful values texts.
             let name = ap text_fits one.name ∙ All-head (λ p. IsTrue (text_fits p.name)) p ps texts in
             let value = one.value.fits lawful (All-head (λ p. LawfulValue store p.value) p ps values) in
-            both (tested x).1 (list_all (λ b. b) (map (λ (t : Tested). t.1) (map tested xs))) (ap (λ (t : Tested). t.1) (fits_of_one x) ∙ both (text_fits x.name) (data_fits x.value) name value)
+            both (tested x).1 (list_all (λ (t : Tested). t.1) (map tested xs)) (ap (λ (t : Tested). t.1) (fits_of_one x) ∙ both (text_fits x.name) (data_fits x.value) name value)
             (rest.fits lawful (All-tail (λ p. LawfulValue store p.value) p ps values) (All-tail (λ p. IsTrue (text_fits p.name)) p ps texts));
       }
   all_entries_measured levels [] c (x ∷ xs) e chain = absurd chain
@@ -263,7 +261,7 @@ module _ (store : List Cell) where
   values_lawful (Some (cell.Obj properties)) h = (h (cell.Obj properties) refl).values
   values_lawful _ h = All-nil (λ (p : Property). LawfulValue store p.value)
 
-  names_lawful : (o : Option Cell) → ((x : Cell) → o ≡ Some x → LawfulCell store x) → are_names (map (λ (p : Property). p.name) (properties_in o)) ≡ true
+  names_lawful : (o : Option Cell) → ((x : Cell) → o ≡ Some x → LawfulCell store x) → are_property_names (map (λ (p : Property). p.name) (properties_in o)) ≡ true
   names_lawful (Some (cell.Obj properties)) h = (h (cell.Obj properties) refl).names
   names_lawful _ h = refl
 
@@ -323,13 +321,13 @@ module _ (store : List Cell) where
               bytes = omega (arith, each.bytes, h.bytes, bytes_of_entries r.0);
               small = each.small h.small;
               whole = λ lawful named texts.
-                  let names = ap are_property_names each.names ∙ sym (same_names (map (λ (p : Property). p.name) (properties_in (slice_get store at)))) ∙ names_lawful (slice_get store at) (cell_at at lawful) in
+                  let names = ap are_property_names each.names ∙ names_lawful (slice_get store at) (cell_at at lawful) in
                   let values = each.whole lawful (values_lawful (slice_get store at) (cell_at at lawful)) (sym (characters_of_entries r.0) ∙ texts) in
                   data_of_entries r.0 ∙ both (are_property_names (map (λ (x : Entry). x.name) r.0)) (list_all entry_is_data r.0) names values;
               fits = λ lawful named.
                   let cell_is = cell_at at lawful in
-                  let names = ap are_names (names_of_entries r.0 ∙ each.names) ∙ names_lawful (slice_get store at) cell_is in
-                  fits_of_entries r.0 ∙ both (list_all (λ b. b) (map (λ (t : Tested). t.1) (map tested r.0))) (are_names (map (λ (t : Tested). t.0) (map tested r.0))) (each.fits lawful (values_lawful (slice_get store at) cell_is) (texts_lawful (slice_get store at) cell_is)) names;
+                  let names = ap are_property_names (names_of_entries r.0 ∙ each.names) ∙ names_lawful (slice_get store at) cell_is in
+                  fits_of_entries r.0 ∙ both (are_property_names (map (λ (t : Tested). t.0) (map tested r.0))) (list_all (λ (t : Tested). t.1) (map tested r.0)) names (each.fits lawful (values_lawful (slice_get store at) cell_is) (texts_lawful (slice_get store at) cell_is));
             }))
         by (Err x) walked same = absurd (cc)
 

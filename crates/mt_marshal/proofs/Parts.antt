@@ -6,7 +6,7 @@ use Rattle.std.specs.Str.{all_scalars}
 use Rattle.std.proofs.lemmas.Bool.{and_parts}
 use Rattle.std.proofs.lemmas.List.Folds.{list_all-map}
 use Rattle.mt_marshal.specs.Characters.{entry_has_characters, has_characters}
-use Rattle.mt_syntax.specs.Data.{is_data, is_in_range, are_property_names, named_entry}
+use Rattle.mt_syntax.specs.Data.{is_data, is_in_range, are_property_names, data_step as step_of_data, named_entry}
 use Rattle.mt_syntax.specs.DataLimits.{bytes_of_data, bytes_of_entry, depth_of_data, depth_of_entry, nodes_of_data, nodes_of_entry, text_bytes}
 use Rattle.mt_syntax.specs.Depth.{greatest}
 use Rattle.mt_tree.specs.declared.data.Data.{Data, roll-Data, the_lemmas}
@@ -14,8 +14,7 @@ use Rattle.mt_tree.specs.declared.data.Data as «data»
 use Rattle.mt_tree.specs.declared.data.Data.TheFolds.{fold-Entry, fold-roll-Data, fold-roll-Entry, map-Data}
 use Rattle.mt_tree.specs.declared.data.Data.TheOpen.{Data-F, Entry-F}
 use Rattle.mt_tree.specs.declared.data.Entry.{Entry, roll-Entry}
-use Rattle.mt_value.specs.Limits.{data_fits, in_range, text_fits}
-use Rattle.mt_value.specs.Names.{are_names}
+use Rattle.mt_value.specs.Limits.{data_fits, text_fits}
 
 -- ---- measures
 
@@ -121,12 +120,9 @@ abbrev pub Tested : Type 0
 Tested = List ℕ × Bool
 
 abbrev pub fits_step : Data-F Bool Tested → Bool
-fits_step (Data-F.Num n) = in_range n
 fits_step (Data-F.Text text) = text_fits text
-fits_step (Data-F.Arr items) = list_all (λ b. b) items
-fits_step (Data-F.Obj entries) = list_all (λ b. b) (map (λ e. e.1) entries) && are_names (map (λ e. e.0) entries)
 fits_step (Data-F.Svc name) = text_fits name
-fits_step _ = true
+fits_step layer = step_of_data layer
 
 abbrev tested_step : Entry-F Bool Tested → Tested
 tested_step e = (e.name, text_fits e.name && e.value)
@@ -147,11 +143,11 @@ pub fits_of_items : (ds : List Data) → data_fits («data».Arr ds) ≡ list_al
 unfolding roll-Data roll
 fits_of_items ds = fits_level (Data-F.Arr ds) ∙ list_all-map (λ b. b) data_fits ds
 
-pub fits_of_entries : (es : List Entry) → data_fits («data».Obj es) ≡ (list_all (λ b. b) (map (λ e. e.1) (map tested es)) && are_names (map (λ e. e.0) (map tested es)))
+pub fits_of_entries : (es : List Entry) → data_fits («data».Obj es) ≡ (are_property_names (map (λ e. e.0) (map tested es)) && list_all (λ e. e.1) (map tested es))
 unfolding roll-Data roll
 fits_of_entries es = fits_level (Data-F.Obj es)
 
-pub fits_of_number : (n : ℤ) → data_fits («data».Num n) ≡ in_range n
+pub fits_of_number : (n : ℤ) → data_fits («data».Num n) ≡ is_in_range n
 unfolding roll-Data roll
 fits_of_number n = fits_level (Data-F.Num n)
 

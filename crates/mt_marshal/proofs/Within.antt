@@ -1,5 +1,5 @@
 -- Data within the limits are of a size that a store can hold.
-use Rattle.std.proofs.Common.{◌≡◌, ℕ, ℤ, pos, negsuc, ◌≤◌, ◌^◌, Bool, true, List, [], ◌∷◌, length, map, sum, refl, sym, ap, subst, ◌∙◌, arith, rules}
+use Rattle.std.proofs.Common.{◌≡◌, ℕ, ◌≤◌, ◌^◌, Bool, true, List, [], ◌∷◌, length, map, sum, refl, sym, ap, subst, ◌∙◌, arith, rules}
 use Rattle.std.specs.List.{list_all}
 use Rattle.std.specs.Str.{all_scalars}
 use Rattle.std.proofs.lemmas.Bool.{and_from, and_parts, le-leb}
@@ -14,11 +14,9 @@ use Rattle.mt_tree.specs.declared.data.Data as «data»
 use Rattle.mt_tree.specs.declared.data.Data.TheFolds.{ind-Data, map-Data}
 use Rattle.mt_tree.specs.declared.data.Data.TheOpen.{Data-F}
 use Rattle.mt_tree.specs.declared.data.Entry.{Entry}
-use Rattle.mt_syntax.specs.Data.{are_property_names, is_data, is_in_range}
+use Rattle.mt_syntax.specs.Data.{are_property_names, is_data}
 use Rattle.mt_syntax.specs.DataLimits.{AreWithinLimits, bytes_of_data, bytes_of_entry, text_bytes}
-use Rattle.mt_value.specs.Limits.{data_fits, in_range, text_fits}
-use Rattle.mt_value.specs.Names.{are_names}
-use Rattle.mt_marshal.proofs.Names.{same_names}
+use Rattle.mt_value.specs.Limits.{data_fits, text_fits}
 use Rattle.mt_marshal.proofs.Parts.{Tested, bytes_of_entries, bytes_of_items, bytes_of_one, data_of_entries, data_of_entry, data_of_items, data_of_number, data_of_service, data_of_text, entry_is_data, fits_level, fits_of_entries, fits_of_items, fits_of_number, fits_of_one, fits_of_service, fits_of_text, names_of_entries, tested}
 
 bytes_of_text : (cs : List ℕ) → bytes_of_data («data».Text cs) ≡ text_bytes cs
@@ -31,10 +29,6 @@ short : (cs : List ℕ) → all_scalars cs ≡ true → text_bytes cs ≤ 2 ^ 20
 short cs scalars small =
     let units : units_of cs ≤ length (encodes cs) = subst (λ x. units_of x ≤ length (encodes cs)) (chars-encodes cs scalars) (units_of-chars_le (encodes cs) (cs, (scalars, refl))) in
     le-leb (units_of cs) (2 ^ 20) (omega (arith, units, small))
-
-same_range : (n : ℤ) → in_range n ≡ is_in_range n
-same_range (pos n) = refl
-same_range (negsuc n) = refl
 
 abbrev Fits : Data → Type 0
 Fits d = is_data d ≡ true → bytes_of_data d ≤ 2 ^ 20 → data_fits d ≡ true
@@ -57,20 +51,20 @@ items_fit (d ∷ ds) whole small =
     and_from (data_fits d.0) (list_all data_fits rest) (d.1 parts.0 (omega (arith, small, bytes))) (items_fit ds parts.1 (omega (arith, small, bytes)))
 
 entries_fit : (es : List FittingEntry) → list_all entry_is_data (map (λ e. e.0) es) ≡ true → sum (map bytes_of_entry (map (λ e. e.0) es)) ≤ 2 ^ 20
-    → list_all (λ b. b) (map (λ (t : Tested). t.1) (map tested (map (λ e. e.0) es))) ≡ true
+    → list_all (λ (t : Tested). t.1) (map tested (map (λ e. e.0) es)) ≡ true
 entries_fit [] whole small = refl
 entries_fit (e ∷ es) whole small =
     let rest : List Entry = map (λ e. e.0) es in
     let parts = and_parts (entry_is_data e.0) (list_all entry_is_data rest) whole in
     let bytes = sum_by-cons (λ n. n) (bytes_of_entry e.0) (map bytes_of_entry rest) in
-    and_from (tested e.0).1 (list_all (λ b. b) (map (λ (t : Tested). t.1) (map tested rest))) (e.1 parts.0 (omega (arith, small, bytes))) (entries_fit es parts.1 (omega (arith, small, bytes)))
+    and_from (tested e.0).1 (list_all (λ (t : Tested). t.1) (map tested rest)) (e.1 parts.0 (omega (arith, small, bytes))) (entries_fit es parts.1 (omega (arith, small, bytes)))
 
 fits_Obj : (es : List FittingEntry) → Fits («data».Obj (map (λ e. e.0) es))
 fits_Obj es whole small =
     let all : List Entry = map (λ e. e.0) es in
     let parts = and_parts (are_property_names (map (λ (e : Entry). e.name) all)) (list_all entry_is_data all) (sym (data_of_entries all) ∙ whole) in
-    let named : are_names (map (λ (t : Tested). t.0) (map tested all)) ≡ true = ap are_names (names_of_entries all) ∙ same_names (map (λ (e : Entry). e.name) all) ∙ parts.0 in
-    fits_of_entries all ∙ and_from (list_all (λ b. b) (map (λ (t : Tested). t.1) (map tested all))) _ (entries_fit es parts.1 (omega (arith, small, bytes_of_entries all))) named
+    let named : are_property_names (map (λ (t : Tested). t.0) (map tested all)) ≡ true = ap are_property_names (names_of_entries all) ∙ parts.0 in
+    fits_of_entries all ∙ and_from (are_property_names (map (λ (t : Tested). t.0) (map tested all))) _ named (entries_fit es parts.1 (omega (arith, small, bytes_of_entries all)))
 
 fits_Entry : (name : List ℕ) (d : Fitting) → EntryFits (record { name = name; value = d.0 })
 fits_Entry name d whole small =
@@ -84,7 +78,7 @@ unfolding roll-Data roll
 by_layer Data-F.Undefined = λ whole small. fits_level Data-F.Undefined
 by_layer Data-F.Null = λ whole small. fits_level Data-F.Null
 by_layer (Data-F.Bool b) = λ whole small. fits_level (Data-F.Bool b)
-by_layer (Data-F.Num n) = λ whole small. fits_of_number n ∙ same_range n ∙ sym (data_of_number n) ∙ whole
+by_layer (Data-F.Num n) = λ whole small. fits_of_number n ∙ sym (data_of_number n) ∙ whole
 by_layer (Data-F.Text cs) = λ whole small. fits_of_text cs ∙ short cs (sym (data_of_text cs) ∙ whole) (omega (arith, small, bytes_of_text cs))
 by_layer (Data-F.Arr ds) = λ whole small.
     let all : List Data = map (λ d. d.0) ds in fits_of_items all ∙ items_fit ds (sym (data_of_items all) ∙ whole) (omega (arith, small, bytes_of_items all))
