@@ -1,37 +1,35 @@
--- Bytes are read in one way alone, and for good once they have decided.
-use Rattle.std.proofs.Common.{◌≡◌, ℕ, List, ◌++◌, Option, Some, None, refl, sym, ap, ◌∙◌, subst}
-use Rattle.mt_tree.specs.declared.data.Data.{Data}
-use Rattle.mt_json.proofs.Arguments.{one_list_text}
-use Rattle.mt_http_types.specs.declared.request.Asked.{Asked}
-use Rattle.mt_http_stream.specs.Settling.{Settles}
+-- Bytes are read by what they have decided, and for good once they have.
+use Rattle.std.proofs.Common.{◌≡◌, ℕ, List, ◌++◌, length, Option, Some, None, refl, sym, ap, ◌∙◌, subst}
+use Rattle.mt_http_types.specs.declared.feed.Feed.{Feed}
+use Rattle.mt_http_types.specs.declared.feed.Feed.TheVariants.{More, Decided}
+use Rattle.mt_http_stream.specs.Settling.{Settles, Tells}
 use Rattle.mt_http_stream.specs.declared.settled.Settled.{Settled}
-use Rattle.mt_http_stream.specs.declared.settled.Settled.TheVariants as settled
 use Rattle.mt_http_stream.proofs.Steps.{settled_more, settled_once}
-use Rattle.mt_http_read.specs.Reading.{AreTextOf, IsAskedBy, IsAskedIn, Reads, load_with, post_with}
+use Rattle.mt_http_read.specs.Asking.{asked_of}
+use Rattle.mt_http_read.specs.Heads.{head_in}
+use Rattle.mt_http_read.specs.Reading.{feed_by, reads_request, settled_in}
+use Rattle.mt_http_read.proofs.Heads.{found}
+use Rattle.mt_http_read.proofs.Points.{same_reading}
 
-one_text : (bytes : List ℕ) (a b : Option (List Data)) → AreTextOf bytes a → AreTextOf bytes b → a ≡ b
-one_text bytes None None first second = refl
-one_text bytes None (Some ds) first second = absurd (first ds second.0 second.1)
-one_text bytes (Some ds) None first second = absurd (second ds first.0 first.1)
-one_text bytes (Some ds) (Some es) first second = ap (λ (l : List Data). Some l) (one_list_text ds es first.0.data second.0.data (first.1 ∙ sym second.1))
+pub settles : (services : List (List ℕ)) (bytes : List ℕ) → Settles services bytes (settled_in services bytes)
+settles services bytes = (head_in bytes, found bytes, refl)
 
-one_asked : (made : Settled) (a b : Asked) → IsAskedBy made a → IsAskedBy made b → a ≡ b
-one_asked (settled.Refused status) a b first second = first ∙ sym second
-one_asked (settled.Load service text) a b first second =
-    first.2 ∙ ap (load_with service) (one_text text first.0 second.0 first.1 second.1) ∙ sym second.2
-one_asked (settled.Post service text) a b first second =
-    first.2 ∙ ap (post_with service) (one_text text first.0 second.0 first.1 second.1) ∙ sym second.2
+pub settled_is : (services : List (List ℕ)) (bytes : List ℕ) (made : Option Settled) → Settles services bytes made → settled_in services bytes ≡ made
+settled_is services bytes made is = settled_once services bytes (settled_in services bytes) made (settles services bytes) is
 
-one_asked_in : (made : Option Settled) (a b : Asked) → IsAskedIn made a → IsAskedIn made b → a ≡ b
-one_asked_in None a b first second = first ∙ sym second
-one_asked_in (Some made) a b first second = one_asked made a b first second
+pub read_by : (services : List (List ℕ)) (bytes : List ℕ) (made : Option Settled) → Settles services bytes made → reads_request services bytes ≡ asked_of made
+read_by services bytes made is = same_reading services (length bytes) (head_in bytes) ∙ ap asked_of (settled_is services bytes made is)
 
-pub once : (services : List (List ℕ)) (bytes : List ℕ) (a b : Asked) → Reads services bytes a → Reads services bytes b → a ≡ b
-once services bytes a b first second =
-    one_asked_in second.0 a b (subst (λ (made : Option Settled). IsAskedIn made a) (settled_once services bytes first.0 second.0 first.1 second.1) first.2) second.2
+pub fed_by : (services : List (List ℕ)) (bytes : List ℕ) (feed : Feed) → Tells services bytes feed → feed ≡ feed_by (settled_in services bytes)
+fed_by services bytes More tells = sym (ap feed_by (settled_is services bytes None tells))
+fed_by services bytes Decided tells = sym (ap feed_by (settled_is services bytes (Some tells.0) tells.1))
 
-pub for_good : (services : List (List ℕ)) (bytes more : List ℕ) (made : Settled) (asked : Asked) → Settles services bytes (Some made)
-    → Reads services bytes asked → Reads services (bytes ++ more) asked
-for_good services bytes more made asked settles reads =
-    let same = settled_once services bytes reads.0 (Some made) reads.1 settles in
-    (Some made, settled_more services bytes more made settles, subst (λ (s : Option Settled). IsAskedIn s asked) same reads.2)
+pub settled_for_good : (services : List (List ℕ)) (bytes more : List ℕ) (made : Settled) → settled_in services bytes ≡ Some made → settled_in services (bytes ++ more) ≡ Some made
+settled_for_good services bytes more made is =
+    settled_is services (bytes ++ more) (Some made) (settled_more services bytes more made (subst (Settles services bytes) is (settles services bytes)))
+
+pub for_good : (services : List (List ℕ)) (bytes more : List ℕ) (made : Settled) → settled_in services bytes ≡ Some made
+    → reads_request services (bytes ++ more) ≡ reads_request services bytes
+for_good services bytes more made is =
+    same_reading services (length (bytes ++ more)) (head_in (bytes ++ more)) ∙ ap asked_of (settled_for_good services bytes more made is ∙ sym is)
+    ∙ sym (same_reading services (length bytes) (head_in bytes))

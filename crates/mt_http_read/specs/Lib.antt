@@ -1,2 +1,4 @@
+pub mod Asking
 pub mod Fed
+pub mod Heads
 pub mod Reading

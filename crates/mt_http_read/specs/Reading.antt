@@ -1,38 +1,69 @@
--- What the bytes of a connection ask a server for.
-use Rattle.std.specs.Prelude.{◌≡◌, ℕ, List, Option, Some, None}
-use Rattle.mt_tree.specs.declared.data.Data.{Data}
-use Rattle.mt_syntax.specs.DataLimits.{AreWithinLimits}
-use Rattle.mt_syntax.specs.DataText.{arguments_text}
+-- What the bytes of a connection ask a server for, for every list of bytes: the first point of a list that holds refuses them, and
+-- where none holds they load or call a service.
+use Rattle.std.specs.Prelude.{ℕ, ◌&&◌, not, nat_lt, Bool, if◌then◌else◌, List, [], ◌∷◌, ◌++◌, length, take, Option, Some, None}
+use Rattle.std.specs.Option.{is_none, unwrap_or}
+use Rattle.mt_json.specs.DataAt.{arguments_at}
+use Rattle.mt_http_types.specs.declared.feed.Feed.{Feed}
+use Rattle.mt_http_types.specs.declared.feed.Feed.TheVariants.{More, Decided}
 use Rattle.mt_http_types.specs.declared.request.Asked.{Asked}
 use Rattle.mt_http_types.specs.declared.request.Asked.TheVariants.{Refused, Load, Post}
-use Rattle.mt_http_stream.specs.Settling.{Settles}
+use Rattle.mt_http_types.specs.declared.request.Call.{Call}
+use Rattle.mt_http_head.specs.Points.{Head, Point, head_of, head_points, is_get, refusal, sizes}
+use Rattle.mt_http_head.specs.Fields.{size_in}
+use Rattle.mt_http_head.specs.Targets.{arguments_in, path_of, query_of, service_at}
+use Rattle.mt_http_stream.specs.Settling.{Found, head_limit, settled_by}
 use Rattle.mt_http_stream.specs.declared.settled.Settled.{Settled}
-use Rattle.mt_http_stream.specs.declared.settled.Settled.TheVariants as settled
+use Rattle.mt_http_read.specs.Heads.{head_in}
 
--- the bytes are the text of these arguments within the limits; or of none
-abbrev pub AreTextOf : List ℕ → Option (List Data) → Type 0
-AreTextOf bytes None = (arguments : List Data) → AreWithinLimits arguments → arguments_text arguments ≡ bytes → ⊥
-AreTextOf bytes (Some arguments) = AreWithinLimits arguments × (arguments_text arguments ≡ bytes)
+-- ---- points
 
-abbrev pub load_with : List ℕ → Option (List Data) → Asked
-load_with service None = Refused 400
-load_with service (Some arguments) = Load (record { service = service; arguments = arguments })
+-- which bytes are to be the text of the arguments: of a load those that its query gives, and of a call its body
+abbrev pub text_behind : Head → List ℕ → List ℕ
+text_behind head rest = if is_get head then unwrap_or (arguments_in (query_of head.target)) [] else take (size_in (sizes head)) rest
 
-abbrev pub post_with : List ℕ → Option (List Data) → Asked
-post_with service None = Refused 400
-post_with service (Some arguments) = Post (record { service = service; arguments = arguments })
+-- whether the bytes end before the body does
+abbrev pub ends_in_body : Head → List ℕ → Bool
+ends_in_body head rest = not (is_get head) && nat_lt (length rest) (size_in (sizes head))
 
--- what is asked for by what was decided: where the bytes are no text of arguments, the status is 400
-abbrev pub IsAskedBy : Settled → Asked → Type 0
-IsAskedBy (settled.Refused status) asked = asked ≡ Refused status
-IsAskedBy (settled.Load service text) asked = (arguments : Option (List Data)) × AreTextOf text arguments × (asked ≡ load_with service arguments)
-IsAskedBy (settled.Post service text) asked = (arguments : Option (List Data)) × AreTextOf text arguments × (asked ≡ post_with service arguments)
+-- of a request whose head doesn't refuse it
+abbrev pub late_points : Head → List ℕ → List Point
+late_points head rest = (ends_in_body head rest, 400) ∷ (is_none (arguments_at (text_behind head rest)), 400) ∷ []
 
--- and by bytes that end before they decide: the status is 400
-abbrev pub IsAskedIn : Option Settled → Asked → Type 0
-IsAskedIn None asked = asked ≡ Refused 400
-IsAskedIn (Some made) asked = IsAskedBy made asked
+-- the points of a request with this head, and these bytes behind it, in their order
+abbrev pub points : List (List ℕ) → Head → List ℕ → List Point
+points services head rest = head_points services head ++ late_points head rest
 
--- a server that has these services takes the bytes for this
-abbrev pub Reads : List (List ℕ) → List ℕ → Asked → Type 0
-Reads services bytes asked = (made : Option Settled) × Settles services bytes made × IsAskedIn made asked
+-- ---- what is asked for where no point holds
+
+abbrev pub call_in : List (List ℕ) → Head → List ℕ → Call
+call_in services head rest = record {
+  service = unwrap_or (service_at services (path_of head.target)) [];
+  arguments = unwrap_or (arguments_at (text_behind head rest)) [];
+}
+
+abbrev pub asked_in : List (List ℕ) → Head → List ℕ → Asked
+asked_in services head rest = if is_get head then Load (call_in services head rest) else Post (call_in services head rest)
+
+abbrev pub unless : Option ℕ → Asked → Asked
+unless None asked = asked
+unless (Some status) asked = Refused status
+
+-- ---- every list of bytes
+
+-- of so many bytes in which this head is found; without one, the status tells whether one could still come
+abbrev pub read_with : List (List ℕ) → ℕ → Found → Asked
+read_with services size None = if nat_lt size head_limit then Refused 400 else Refused 431
+read_with services size (Some found) = unless (refusal (points services (head_of found.0) found.1)) (asked_in services (head_of found.0) found.1)
+
+-- what a server that has these services takes the bytes for
+abbrev pub reads_request : List (List ℕ) → List ℕ → Asked
+reads_request services bytes = read_with services (length bytes) (head_in bytes)
+
+-- what the bytes have decided, if they have
+abbrev pub settled_in : List (List ℕ) → List ℕ → Option Settled
+settled_in services bytes = settled_by services (length bytes) (head_in bytes)
+
+-- whether more bytes may matter
+abbrev pub feed_by : Option Settled → Feed
+feed_by None = More
+feed_by (Some settled) = Decided

@@ -1,5 +1,6 @@
-ghost use Rattle.std.specs.Prelude.{IfOk};
-ghost use Rattle.mt_http_read.specs.Reading.{AreTextOf, IsAskedBy};
+ghost use Rattle.std.specs.Prelude.{◌≡◌, IfOk};
+ghost use Rattle.mt_json.specs.DataAt.{arguments_at};
+ghost use Rattle.mt_http_read.specs.Asking.{asked_by};
 
 use mt_http_stream::Settled;
 use mt_http_types::{Asked, Call};
@@ -9,7 +10,7 @@ use std::alloc::Global;
 
 // The arguments whose text the bytes are.
 fn arguments(alloc: Global, bytes: &[u8]) -> Result<Option<Row<Data>>, NoMemory>
-    ensures { IfOk result (AreTextOf bytes.now) }
+    ensures { IfOk result (λ found. found ≡ arguments_at bytes.now) }
 {
     match read_arguments(alloc, bytes) {
         Ok(arguments) => Ok(Some(arguments)),
@@ -23,7 +24,7 @@ fn arguments(alloc: Global, bytes: &[u8]) -> Result<Option<Row<Data>>, NoMemory>
 /// # Errors
 /// `NoMemory`.
 pub(crate) fn asked(alloc: Global, settled: Settled) -> Result<Asked, NoMemory>
-    ensures { IfOk result (IsAskedBy settled) }
+    ensures { IfOk result (λ asked. asked ≡ asked_by settled) }
 {
     match settled {
         Settled::Refused(status) => Ok(Asked::Refused(status)),

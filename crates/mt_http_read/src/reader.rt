@@ -14,10 +14,9 @@ pub struct RequestReader {
 }
 
 impl RequestReader {
-    ghost use Rattle.std.specs.Prelude.{◌++◌, [], IfOk, List, OnOk, ℕ};
-    ghost use Rattle.mt_http_stream.specs.Settling.{Tells};
+    ghost use Rattle.std.specs.Prelude.{◌≡◌, ◌++◌, [], IfOk, List, OnOk, ℕ};
     ghost use Rattle.mt_http_read.specs.Fed.{WasFed};
-    ghost use Rattle.mt_http_read.specs.Reading.{Reads};
+    ghost use Rattle.mt_http_read.specs.Reading.{feed_by, reads_request, settled_in};
 
     /// A reader for a server that has these services, and that was fed nothing.
     ///
@@ -38,7 +37,7 @@ impl RequestReader {
     /// `NoMemory`; the reader may then only be dropped.
     pub fn feed(&mut self, piece: &[u8]) -> Result<Feed, NoMemory>
         ensures fed { OnOk result ((services : List (List ℕ)) (fed : List ℕ) → WasFed self.old services fed → WasFed self.new services (fed ++ piece.now)) }
-        ensures decided { IfOk result (λ feed. (services : List (List ℕ)) (fed : List ℕ) → WasFed self.old services fed → Tells services (fed ++ piece.now) feed) }
+        ensures decided { IfOk result (λ feed. (services : List (List ℕ)) (fed : List ℕ) → WasFed self.old services fed → feed ≡ feed_by (settled_in services (fed ++ piece.now))) }
     {
         self.stream.feed(piece)
     }
@@ -48,7 +47,7 @@ impl RequestReader {
     /// # Errors
     /// `NoMemory`.
     pub fn finish(self) -> Result<Asked, NoMemory>
-        ensures { IfOk result (λ asked. (services : List (List ℕ)) (fed : List ℕ) → WasFed self services fed → Reads services fed asked) }
+        ensures { IfOk result (λ asked. (services : List (List ℕ)) (fed : List ℕ) → WasFed self services fed → asked ≡ reads_request services fed) }
     {
         let RequestReader { alloc, stream } = self;
         match stream.finish() {
