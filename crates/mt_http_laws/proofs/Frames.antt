@@ -17,7 +17,7 @@ use Rattle.mt_http_request.specs.Targets.{call_target, service_path}
 use Rattle.mt_http_request.proofs.Escaping.{read_again}
 use Rattle.mt_http_request.proofs.Requests.{small_bytes}
 use Rattle.mt_http_head.specs.Targets.{arguments_in, has_name, path_of, query_of, service_at}
-use Rattle.mt_http_laws.specs.Understood.{load_by, load_of}
+use Rattle.mt_http_laws.specs.Decided.{load_by, load_of}
 use Rattle.mt_http_laws.proofs.Posts.{is_path_byte, no_query, no_question_mark, path_bytes}
 
 pub service_found : (services : List (List ℕ)) (service : List ℕ) → all_scalars service ≡ true

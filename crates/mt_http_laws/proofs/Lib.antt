@@ -1,3 +1,4 @@
 pub mod Loads
 pub mod Posts
 pub mod Frames
+pub mod Requests

@@ -19,7 +19,7 @@ use Rattle.mt_http_head.specs.declared.decision.Decision.{Decision}
 use Rattle.mt_http_head.specs.declared.decision.Decision.TheVariants as decided
 use Rattle.mt_http_head.proofs.Deciding.{no_service, of_service}
 use Rattle.mt_http_stream.specs.Settling.{Settles, head_limit, settled_behind}
-use Rattle.mt_http_laws.specs.Understood.{load_by, load_of}
+use Rattle.mt_http_laws.specs.Decided.{load_by, load_of}
 
 -- ---- fields
 

@@ -31,7 +31,7 @@ use Rattle.mt_http_head.specs.declared.decision.Decision.TheVariants as decided
 use Rattle.mt_http_head.proofs.Deciding.{no_service, of_service}
 use Rattle.mt_http_stream.specs.Settling.{IsFound, Settles, head_limit, settled_behind}
 use Rattle.mt_http_stream.specs.declared.settled.Settled.TheVariants as settled
-use Rattle.mt_http_laws.specs.Understood.{post_by, post_of}
+use Rattle.mt_http_laws.specs.Decided.{post_by, post_of}
 use Rattle.mt_http_laws.proofs.Loads.{closing, closing_is, host, host_is, is_field}
 
 -- ---- the head of a call

@@ -1,5 +1,6 @@
 -- The head that is found is the head of the grammar.
-use Rattle.std.proofs.Common.{◌≡◌, ◌≤◌, ◌<◌, ◌-◌, ℕ, Bool, true, false, not, ◌&&◌, nat_le, nat_lt, List, [], ◌∷◌, ◌++◌, length, map, take, drop, get_or, Some, None, All, refl, sym, ap, ◌∙◌, subst, arith, append_assoc, ⊎_elim, inl, inr}
+use Rattle.std.proofs.Common.{◌≡◌, ◌≤◌, ◌<◌, ◌-◌, ℕ, Bool, true, false, not, ◌&&◌, nat_le, nat_lt, List, [], ◌∷◌, ◌++◌, length, map, take, drop, get_or, Some, None, All}
+use Rattle.std.proofs.Common.{refl, sym, ap, ◌∙◌, subst, arith, append_assoc, ⊎_elim, inl, inr}
 use Rattle.std.proofs.lemmas.Bool.{and_parts, and_from, cases_Bool, cases_lt, cond-true, cond-false, leb-true, le-leb}
 use Rattle.std.proofs.lemmas.Bool.Decides.{nat_tests}
 use Rattle.std.proofs.lemmas.List.{take-append-drop, take_at}
@@ -14,8 +15,10 @@ use Rattle.httparse.specs.Grammar.{print_blank, print_end, print_field, print_re
 use Rattle.httparse.proofs.GrammarLemmas.{print_request-append}
 use Rattle.mt_http_stream.specs.Settling.{Found, IsFound, head_limit}
 use Rattle.mt_http_stream.proofs.Heads.{found_once}
-use Rattle.mt_http_read.specs.Heads.{after, before, behind, end_of, field_of, first_of, has_text, head_after, head_by, head_in, head_with, is_empty, is_field, is_head, lines_of, stands_in, taken_apart}
-use Rattle.mt_http_read.proofs.Parting.{after_stop, all_empty, before_stop, behind_stops, blank_lines, end_is_empty, end_shown, ends_again, field_line, field_lines, fields_again, fields_have_text, front_stops, in_line}
+use Rattle.mt_http_read.specs.Heads.{after, before, behind, end_of, field_of, first_of, has_text, head_after, head_by, head_in, head_with, is_empty, is_field, is_head}
+use Rattle.mt_http_read.specs.Heads.{lines_of, stands_in, taken_apart}
+use Rattle.mt_http_read.proofs.Parting.{after_stop, all_empty, before_stop, behind_stops, blank_lines, end_is_empty, end_shown, ends_again, field_line, field_lines}
+use Rattle.mt_http_read.proofs.Parting.{fields_again, fields_have_text, front_stops, in_line}
 use Rattle.mt_http_read.proofs.Parting.{line_has_text, line_shown, minor_again, return_of, returns_of, shown, start_in_line, target_no_space, text_shown, token_no_space}
 
 -- ---- the tests
@@ -157,7 +160,8 @@ taken_again head rest passes =
     let line = shown (start_of head) head.line_end in
     let more = lines_behind head rest in
     ap head_with (lines_in head rest passes)
-    ∙ ap (λ (l : List (List ℕ)). head_after (map end_of l) (behind is_empty (returns_of head.blank ++ line ∷ more))) (front_stops is_empty (returns_of head.blank) line more (all_empty head.blank) start.1)
+    ∙ ap (λ (l : List (List ℕ)). head_after (map end_of l) (behind is_empty (returns_of head.blank ++ line ∷ more)))
+    (front_stops is_empty (returns_of head.blank) line more (all_empty head.blank) start.1)
     ∙ ap (λ (l : List LineEnd). head_after l (behind is_empty (returns_of head.blank ++ line ∷ more))) (ends_again head.blank)
     ∙ ap (head_after head.blank) (behind_stops is_empty (returns_of head.blank) line more (all_empty head.blank) start.1)
     ∙ ap (λ (l : List ℕ). head_by head.blank l (end_of line) more) (text_shown (start_of head) head.line_end start.0)
