@@ -30,11 +30,10 @@ fn answer(alloc: Global, line: &Line) -> Result<String> {
         "read_reply" => reading::reply(alloc, line),
         "stream" => reading::stream(alloc, line),
         "long_reply" => reading::long(alloc, line),
-        "cuts" => reading::cuts(alloc, line),
         "request" => requests::request(alloc, line),
         "long_request" => requests::long(alloc, line),
+        "large_request" => requests::large(alloc, line),
         "decides" => requests::decides(alloc, line),
-        "request_cuts" => requests::cuts(alloc, line),
         other => bail!("no call {other}"),
     }
 }

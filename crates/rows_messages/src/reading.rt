@@ -15,11 +15,7 @@ fn content(content: Content) -> &'static str {
     }
 }
 
-fn read(alloc: Global, bytes: &[u8], length: usize) -> Result<Option<Reply>> {
-    let mut reader = ReplyReader::new(alloc);
-    for piece in bytes.chunks(length.max(1)) {
-        made(reader.feed(piece))?;
-    }
+fn finished(reader: ReplyReader) -> Result<Option<Reply>> {
     match reader.finish() {
         Ok(reply) => Ok(Some(reply)),
         Err(ReplyRefusal::NotReply) => Ok(None),
@@ -27,10 +23,16 @@ fn read(alloc: Global, bytes: &[u8], length: usize) -> Result<Option<Reply>> {
     }
 }
 
-/// The reply whose text comes in pieces of so many bytes.
-pub fn reply(alloc: Global, line: &Line) -> Result<String> {
-    let length = usize::try_from(line.number(1)?)?;
-    match read(alloc, line.text(0)?.as_bytes(), length)? {
+fn read(alloc: Global, bytes: &[u8], length: usize) -> Result<Option<Reply>> {
+    let mut reader = ReplyReader::new(alloc);
+    for piece in bytes.chunks(length.max(1)) {
+        made(reader.feed(piece))?;
+    }
+    finished(reader)
+}
+
+fn said(alloc: Global, reply: &Option<Reply>) -> Result<String> {
+    match reply {
         Some(reply) => {
             let status = reply.status;
             let content = content(reply.content);
@@ -39,6 +41,33 @@ pub fn reply(alloc: Global, line: &Line) -> Result<String> {
         }
         None => Ok(String::from_str(alloc, "NotReply")?),
     }
+}
+
+// The reply whose text comes in two pieces.
+fn halves(alloc: Global, front: &[u8], back: &[u8]) -> Result<Option<Reply>> {
+    let mut reader = ReplyReader::new(alloc);
+    made(reader.feed(front))?;
+    made(reader.feed(back))?;
+    finished(reader)
+}
+
+/// The reply whose text this is, and how many proper beginnings of it are replies. The text is also read in two pieces, cut at each
+/// place; an answer that differs is named.
+pub fn reply(alloc: Global, line: &Line) -> Result<String> {
+    let bytes = line.text(0)?.as_bytes();
+    let whole = said(alloc, &read(alloc, bytes, 1)?)?;
+    let mut replies = 0u32;
+    for place in 0..bytes.len() {
+        let (front, back) = bytes.split_at(place);
+        let both = said(alloc, &halves(alloc, front, back)?)?;
+        if both != whole {
+            return Ok(format!(in alloc; "{whole}, but cut at {place} {both}")?);
+        }
+        if halves(alloc, front, b"")?.is_some() {
+            replies = replies.saturating_add(1);
+        }
+    }
+    Ok(format!(in alloc; "{whole} {replies}")?)
 }
 
 /// How a stream takes a text that comes byte by byte: how many bytes it had when the head was there, the bodies that it
@@ -77,17 +106,4 @@ pub fn long(alloc: Global, line: &Line) -> Result<String> {
         None => "NotReply",
     };
     Ok(String::from_str(alloc, answer)?)
-}
-
-/// How many proper beginnings of a text are replies, and whether the whole text is one.
-pub fn cuts(alloc: Global, line: &Line) -> Result<String> {
-    let bytes = line.text(0)?.as_bytes();
-    let mut replies = 0u32;
-    for count in 0..bytes.len() {
-        if read(alloc, &bytes[..count], 3)?.is_some() {
-            replies = replies.saturating_add(1);
-        }
-    }
-    let whole = read(alloc, bytes, 3)?.is_some();
-    Ok(format!(in alloc; "{replies} {whole}")?)
 }
