@@ -1,0 +1,9 @@
+pub mod Complete
+pub mod Cuts
+pub mod Finish
+pub mod Held
+pub mod Nodes
+pub mod Over
+pub mod Runs
+pub mod Sound
+pub mod Steps

@@ -1,0 +1,4 @@
+pub mod Fed
+pub mod Held
+pub mod Machine
+pub mod Over
