@@ -1,0 +1,6 @@
+mod Accepted
+mod Client
+mod Listed
+mod Products
+mod Programs
+mod Server
